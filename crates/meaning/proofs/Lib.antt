@@ -1,0 +1,16 @@
+pub mod Basics
+pub mod Lists
+pub mod Game
+pub mod Blocks
+pub mod Literals
+pub mod Prefix
+pub mod Clauses
+pub mod Ascends
+pub mod Peel
+pub mod Tidy
+pub mod WellFormed
+pub mod Again
+pub mod Parts
+pub mod Weight
+pub mod Verdict
+pub mod Closed

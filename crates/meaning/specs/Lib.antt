@@ -1,0 +1,5 @@
+pub mod Lists
+pub mod Formula
+pub mod Game
+pub mod Tidy
+pub mod WellFormed
