@@ -4,7 +4,7 @@ use Prim.Native.Nat.{ℕ, _+_, _*_, _%_}
 use mathlib.Core.Bool.{Bool, true, false, not, cond}
 use native.Mathlib.Omega.{arith}
 use lib.Dec.{eqb}
-use Rattle.meaning.specs.Formula.{var, odd, opposite}
+use Rattle.meaning.specs.Formula.{var, odd, opposite, plain, negated}
 use Rattle.meaning.specs.Game.{Values, withValue, litTrue}
 use Rattle.meaning.proofs.Basics.{by-cases, eqb-true, eqb-eq, eqb-ne, eqb-false}
 use Rattle.meaning.proofs.Game.{with-same, with-other}
@@ -97,3 +97,28 @@ lit-with ρ l b = rw (with-same ρ (var l) b)
 pub lit-with-other : (ρ : Values) (v l : ℕ) (b : Bool) → eqb (var l) v ≡ false → litTrue (withValue ρ v b) l ≡ litTrue ρ l
 unfolding litTrue
 lit-with-other ρ v l b h = rw (with-other ρ v b (var l) h)
+
+-- The two literals of a variable, by name ---------------------------------------------------------------------
+pub opp-plain : (a : ℕ) → opposite (plain a) ≡ negated a
+unfolding plain negated
+opp-plain a = opp-even (2 * a) (odd-plain a) ∙ ap (λ (v : ℕ). 2 * v + 1) (var-plain a)
+
+pub opp-negated : (a : ℕ) → opposite (negated a) ≡ plain a
+unfolding plain negated
+opp-negated a = opp-odd (2 * a + 1) (odd-negated a) ∙ ap (λ (v : ℕ). 2 * v) (var-negated a)
+
+pub var-of-plain : (a : ℕ) → var (plain a) ≡ a
+unfolding plain
+var-of-plain a = var-plain a
+
+pub odd-of-plain : (a : ℕ) → odd (plain a) ≡ false
+unfolding plain
+odd-of-plain a = odd-plain a
+
+pub var-of-negated : (a : ℕ) → var (negated a) ≡ a
+unfolding negated
+var-of-negated a = var-negated a
+
+pub odd-of-negated : (a : ℕ) → odd (negated a) ≡ true
+unfolding negated
+odd-of-negated a = odd-negated a

@@ -1,0 +1,12 @@
+pub mod Place
+pub mod Assign
+pub mod Values
+pub mod Clauses
+pub mod Equality
+pub mod Resolve
+pub mod Fresh
+pub mod Rename
+pub mod Expand
+pub mod Define
+pub mod Sound
+pub mod Falls
