@@ -151,6 +151,11 @@ module _ {A : Type 0} where
   none-any f [] h = refl
   none-any f (x ∷ c) h = rw (not-true (f x) (and-l (not (f x)) (allOf (λ x. not (f x)) c) h)) (none-any f c (and-r (not (f x)) (allOf (λ x. not (f x)) c) h))
 
+  pub any-some : (f : A → Bool) (c : List A) → anyOf f c ≡ true → (x : A) × (f x ≡ true)
+  unfolding anyOf
+  any-some f [] h = absurd (false≢true h)
+  any-some f (x ∷ c) h = or-elim (f x) (anyOf f c) h (λ e. (x, e)) (λ e. any-some f c e)
+
 module _ {A B : Type 0} where
   pub any-map : (f : B → Bool) (g : A → B) (c : List A) → anyOf f (map g c) ≡ anyOf (λ x. f (g x)) c
   unfolding anyOf

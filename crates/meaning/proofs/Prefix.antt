@@ -96,3 +96,7 @@ right-any f v (q ∷ p) h = or-ir (f q) (anyOf f p) (go (isVar v q) h (right-any
     go : (s : Bool) → anyOf f (cond s p (rightOf v p)) ≡ true → (anyOf f (rightOf v p) ≡ true → anyOf f p ≡ true) → anyOf f p ≡ true
     go true k ih = k
     go false k ih = ih k
+
+pub right-mentioned : (v : ℕ) (p : List ℕ) (w : ℕ) → mentions (rightOf v p) w ≡ true → mentions p w ≡ true
+unfolding mentions
+right-mentioned v p w h = right-any (isVar w) v p h

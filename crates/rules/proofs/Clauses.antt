@@ -16,7 +16,7 @@ use Rattle.meaning.proofs.Literals.{lit-opp}
 use Rattle.meaning.proofs.Lists.{any-le, any-keep, any-keep-le, any-has, all-has, any-witness}
 use Rattle.meaning.proofs.Ascends.{once-opp}
 use Rattle.rules.proofs.Values.{Keeps, all-at}
-use Rattle.meaning.proofs.Parts.{tidy-of, ascends-of, tidy-of, ascends-of}
+use Rattle.meaning.proofs.Parts.{tidy-of, ascends-of}
 
 -- One place of a list of clauses -----------------------------------------------------------------------------
 -- the clauses are that at b and the others; so with others in its place

@@ -18,15 +18,10 @@ use Rattle.meaning.proofs.Lists.{any-map, all-map, same-path}
 use Rattle.rules.proofs.Place.{Place, place, game-under, last-exists}
 use Rattle.rules.proofs.Assign.{other-lit}
 use Rattle.rules.proofs.Values.{Keeps, all-at}
-use Rattle.meaning.proofs.Parts.{reduced-of, good-of, tidy-of, ascends-of, bound-of, good-of, tidy-of, ascends-of, bound-of, reduced-of}
-use Rattle.meaning.proofs.Prefix.{good-out, good-tail}
+use Rattle.meaning.proofs.Parts.{reduced-of, good-of, tidy-of, ascends-of, bound-of}
+use Rattle.meaning.proofs.Prefix.{good-out, good-tail, right-mentioned}
 
 -- right of --------------------------------------------------------------------------------------------------
-pub right-le : (v : ℕ) (p : List ℕ) (w : ℕ) → mentions (rightOf v p) w ≡ true → mentions p w ≡ true
-unfolding rightOf mentions anyOf
-right-le v [] w h = h
-right-le v (q ∷ p) w h = or-ir (isVar w q) (mentions p w) (by-cases (isVar v q) (λ e. subst (λ (b : Bool). mentions (cond b p (rightOf v p)) w ≡ true) e h) (λ e. right-le v p w (subst (λ (b : Bool). mentions (cond b p (rightOf v p)) w ≡ true) e h)))
-
 pub right-not : (p : List ℕ) → goodPrefix p ≡ true → (v w : ℕ) → mentions (rightOf v p) w ≡ true → mentions (rightOf w p) v ≡ false
 unfolding rightOf isVar
 right-not [] good v w h = unfold mentions anyOf in refl
@@ -34,9 +29,9 @@ right-not (q ∷ p) good v w h =
     by-cases (eqb (var q) v)
     (λ e. let inside : mentions p w ≡ true = subst (λ (b : Bool). mentions (cond b p (rightOf v p)) w ≡ true) e h in
     ap (λ (b : Bool). mentions (cond b p (rightOf w p)) v) (apart inside)
-    ∙ false-of (mentions (rightOf w p) v) (λ x. clash (right-le w p v x) (subst (λ (u : ℕ). mentions p u ≡ false) (eqb-true (var q) v e) (good-out q p good))))
+    ∙ false-of (mentions (rightOf w p) v) (λ x. clash (right-mentioned w p v x) (subst (λ (u : ℕ). mentions p u ≡ false) (eqb-true (var q) v e) (good-out q p good))))
     (λ e. let inside : mentions (rightOf v p) w ≡ true = subst (λ (b : Bool). mentions (cond b p (rightOf v p)) w ≡ true) e h in
-    ap (λ (b : Bool). mentions (cond b p (rightOf w p)) v) (apart (right-le v p w inside))
+    ap (λ (b : Bool). mentions (cond b p (rightOf w p)) v) (apart (right-mentioned v p w inside))
     ∙ right-not p (good-tail q p good) v w inside)
   where
     apart : mentions p w ≡ true → eqb (var q) w ≡ false

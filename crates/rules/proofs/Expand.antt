@@ -22,8 +22,8 @@ use Rattle.rules.proofs.Assign.{assign-true}
 use Rattle.rules.proofs.Values.{Keeps}
 use Rattle.rules.proofs.Fresh.{once, fresh-length, fresh-once, fresh-out}
 use Rattle.rules.proofs.Rename.{Copies, copies-mention, rename-in, rename-out, game-rename, renamed, rename-true}
-use Rattle.meaning.proofs.Parts.{reduced-of, good-of, tidy-of, bound-of, good-of, tidy-of, bound-of, reduced-of}
-use Rattle.meaning.proofs.Literals.{var-of-plain, odd-of-plain, var-of-negated, odd-of-negated, var-of-plain, odd-of-plain, var-of-negated, odd-of-negated}
+use Rattle.meaning.proofs.Parts.{reduced-of, good-of, tidy-of, bound-of}
+use Rattle.meaning.proofs.Literals.{var-of-plain, odd-of-plain, var-of-negated, odd-of-negated}
 use Rattle.meaning.proofs.Prefix.{forall-mentioned, good-out, good-tail}
 
 pub any-false : {A : Type 0} (f : A → Bool) (c : List A) → ((x : A) → f x ≡ false) → anyOf f c ≡ false

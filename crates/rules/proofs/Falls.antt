@@ -13,13 +13,13 @@ use Rattle.meaning.specs.Tidy.{tidied}
 use Rattle.rules.specs.Simplify.{clauseAt, isClause, withoutLit, assign, becomesTrue, unitClause, unitPermitted, unitRaw, occurs, purePermitted, pureLit, pureRaw, subsumePermitted, replaceAt, subsumeRaw, strengthens, strengthenPermitted, strengthenLit, strengthenRaw, oppositePair, equalityPermitted, replaceLit, replaced, equalityOf, equalityRaw}
 use Rattle.rules.specs.Eliminate.{universalsFirst, expandPermitted, inner, fresh, expandWith, expandRaw}
 use Rattle.meaning.proofs.Basics.{clash, and-l, and-r, T-of, of-T}
-use Rattle.meaning.proofs.Literals.{var-opp, odd-of-plain, odd-of-plain}
+use Rattle.meaning.proofs.Literals.{var-opp, odd-of-plain}
 use Rattle.meaning.proofs.Weight.{keep-length, literals-append, size, tidied-weight}
 use Rattle.rules.proofs.Place.{Place, place}
 use Rattle.rules.proofs.Values.{all-at, pure-var}
 use Rattle.rules.proofs.Clauses.{first-passes}
-use Rattle.meaning.proofs.Parts.{good-of, tidy-of, bound-of, good-of, tidy-of, bound-of}
-use Rattle.meaning.proofs.Prefix.{forall-mentioned, forall-mentioned}
+use Rattle.meaning.proofs.Parts.{good-of, tidy-of, bound-of}
+use Rattle.meaning.proofs.Prefix.{forall-mentioned}
 
 -- a variable of the prefix dropped: one entry less
 drop-length : (p : List ℕ) (v : ℕ) → goodPrefix p ≡ true → mentions p v ≡ true → suc (length (dropVar v p)) ≡ length p

@@ -10,3 +10,17 @@ pub mod Expand
 pub mod Define
 pub mod Sound
 pub mod Falls
+pub mod Entries
+pub mod Room
+pub mod Bound
+pub mod Kept
+pub mod Before
+pub mod Search
+pub mod Choose
+pub mod Chosen
+pub mod Answers
+pub mod Ahead
+pub mod Order
+pub mod First
+pub mod Replays
+pub mod Runs

@@ -11,7 +11,7 @@ use Rattle.rules.specs.Eliminate.{renameVar, renameLit}
 use Rattle.meaning.proofs.Basics.{by-cases, iff, clash, or-l, or-r, or-il, or-ir, eqb-self, eqb-true, eqb-eq, eqb-ne, eqb-false}
 use Rattle.meaning.proofs.Game.{Free, FreeOf, free-const, free-tail, with-same, with-other, choice-exists, game-ext, game-subst, mentions-head}
 use Rattle.meaning.proofs.Lists.{any-map, all-map}
-use Rattle.meaning.proofs.Literals.{var-of-plain, odd-of-plain, var-of-negated, odd-of-negated, var-of-plain, odd-of-plain, var-of-negated, odd-of-negated}
+use Rattle.meaning.proofs.Literals.{var-of-plain, odd-of-plain, var-of-negated, odd-of-negated}
 
 -- as many copies as existentials, each once and new
 abbrev pub Copies : List ℕ → List ℕ → Type 0

@@ -21,7 +21,7 @@ use Rattle.rules.proofs.Place.{Place, place, game-under}
 use Rattle.rules.proofs.Assign.{other-lit, assign-true}
 use Rattle.rules.proofs.Values.{Keeps}
 use Rattle.meaning.proofs.Ascends.{once-opp}
-use Rattle.meaning.proofs.Parts.{good-of, tidy-of, ascends-of, good-of, tidy-of, ascends-of}
+use Rattle.meaning.proofs.Parts.{good-of, tidy-of, ascends-of}
 use Rattle.meaning.proofs.Prefix.{exists-mentioned}
 
 -- a variable of a clause is there by one of its two literals -------------------------------------------------

@@ -16,7 +16,7 @@ use Rattle.rules.specs.Entry.{Kind, unit, pure, subsume, strengthen, equ
 use Rattle.rules.specs.Step.{permitted, resultOf, rawOf}
 use Rattle.rules.proofs.Resolve.{mentions-lits, resolve-keeps}
 use Rattle.meaning.proofs.Basics.{by-cases, clash, false-of, and-l, and-r, and-i, or-il, or-ir, not-true, T-of, of-T, eqb-self, eqb-eq, eqb-ne, eqb-false}
-use Rattle.meaning.proofs.Literals.{var-opp, opp-opp, var-of-plain, var-of-negated, opp-plain, opp-negated, var-of-plain, var-of-negated, opp-plain, opp-negated}
+use Rattle.meaning.proofs.Literals.{var-opp, opp-opp, var-of-plain, var-of-negated, opp-plain, opp-negated}
 use Rattle.meaning.proofs.Lists.{any-append, all-append, any-keep, any-keep-le, all-keep, all-keep-le, all-map, all-le, all-of-has, all-has, any-has}
 use Rattle.meaning.proofs.Tidy.{tidied-truth}
 use Rattle.meaning.proofs.WellFormed.{tidied-well-formed}
@@ -29,8 +29,8 @@ use Rattle.rules.proofs.Rename.{Copies, copies-mention, rename-in, rena
 use Rattle.rules.proofs.Assign.{other-lit}
 use Rattle.rules.proofs.Expand.{any-false, good-keep, copies-ok, with-u, expand-keeps}
 use Rattle.rules.proofs.Place.{Place, place}
-use Rattle.meaning.proofs.Parts.{good-of, tidy-of, ascends-of, bound-of, bound-all, good-of, tidy-of, ascends-of, bound-of}
-use Rattle.meaning.proofs.Prefix.{forall-mentioned, good-out, good-tail, drop-other, forall-mentioned}
+use Rattle.meaning.proofs.Parts.{good-of, tidy-of, ascends-of, bound-of, bound-all}
+use Rattle.meaning.proofs.Prefix.{forall-mentioned, good-out, good-tail, drop-other}
 
 -- raw clauses over a good prefix, with its variables only
 abbrev pub RawOk : Formula → Type 0
