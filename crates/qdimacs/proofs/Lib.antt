@@ -1,1 +1,10 @@
 pub mod Quoted
+pub mod Lists
+pub mod Words
+pub mod Tokens
+pub mod Right
+pub mod Sound
+pub mod Sizes
+pub mod Lines
+pub mod Trip
+pub mod Faults
