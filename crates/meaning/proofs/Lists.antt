@@ -27,6 +27,11 @@ module _ {A : Type 0} where
       go true b e = refl
       go false b e = refl
 
+  -- an element more at the right end
+  pub all-snoc : (f : A → Bool) (xs : List A) (x : A) → allOf f xs ≡ true → f x ≡ true → allOf f (xs ++ (x ∷ [])) ≡ true
+  unfolding allOf
+  all-snoc f xs x h k = all-append f xs (x ∷ []) ∙ rw (h, k)
+
   -- a list is what passes a test and what does not
   pub any-split : (f t : A → Bool) (c : List A) → anyOf f c ≡ (anyOf f (keepIf (λ x. not (t x)) c) || anyOf f (keepIf t c))
   unfolding anyOf keepIf

@@ -1,5 +1,4 @@
 pub mod Quoted
-pub mod Lists
 pub mod Words
 pub mod Tokens
 pub mod Right

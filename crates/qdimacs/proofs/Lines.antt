@@ -28,7 +28,7 @@ use Rattle.qdimacs.specs.declared.Move.the-variants.{Fault, Go}
 use Rattle.meaning.proofs.Basics.{by-cases, and-l, and-r}
 use Rattle.meaning.proofs.Literals.{odd-is, even-is, plain-is, negated-is}
 use Rattle.meaning.proofs.Weight.{build-less}
-use Rattle.qdimacs.proofs.Lists.{good-next, mentioned-all, mentioned-some}
+use Rattle.meaning.proofs.Prefix.{good-next, mentioned-all, mentioned-some}
 use Rattle.qdimacs.proofs.Tokens.{Takes, Leads, spaced, ended, leads-on, spells-plain, spells-zero, spells-p, spells-cnf, quantifierWord, literalWord, spells-letter, spells-literal}
 
 abbrev pub mk : Phase → ℕ → ℕ → List ℕ → List (List ℕ) → List ℕ → State

@@ -26,7 +26,8 @@ use Rattle.qdimacs.specs.declared.Phase.the-variants.{AtP, AtCnf, AtM, A
 use Rattle.qdimacs.specs.declared.Move.{Move}
 use Rattle.qdimacs.specs.declared.Move.the-variants.{Fault, Go, SetM, SetC, Entry, Literal, Close}
 use Rattle.meaning.proofs.Literals.{var-plain, var-negated}
-use Rattle.qdimacs.proofs.Lists.{all-snoc, good-snoc}
+use Rattle.meaning.proofs.Prefix.{good-snoc}
+use Rattle.meaning.proofs.Lists.{all-snoc}
 
 -- what is there in each phase
 abbrev NoClause : State → Type 0

@@ -16,7 +16,7 @@ use Rattle.qdimacs.specs.Write.{decimal, largest, lineRest, prefixLines,
 use Rattle.meaning.proofs.Basics.{by-cases, and-l, and-r}
 use Rattle.meaning.proofs.Lists.{all-le}
 use Rattle.meaning.proofs.Parts.{bound-all, room-of}
-use Rattle.qdimacs.proofs.Lists.{bound-numbers}
+use Rattle.meaning.proofs.Prefix.{bound-numbers}
 use Rattle.qdimacs.proofs.Words.{decimal-short, decimal-long}
 
 -- numbers within the limits: a numeral of at most four digits

@@ -22,7 +22,7 @@ use Rattle.meaning.proofs.Tidy.{tidied-truth}
 use Rattle.meaning.proofs.WellFormed.{tidied-well-formed}
 use Rattle.meaning.proofs.Parts.{of-room}
 use Rattle.meaning.proofs.Weight.{build-less}
-use Rattle.qdimacs.proofs.Lists.{prefix-few}
+use Rattle.meaning.proofs.Prefix.{prefix-few}
 use Rattle.qdimacs.proofs.Right.{Right, RightSoFar, reading-right}
 
 -- What is written ----------------------------------------------------------------------------------------------
