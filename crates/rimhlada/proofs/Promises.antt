@@ -1,27 +1,28 @@
 -- What Rimhlada promises, over the definitions of document 01: its demands 2 and 3, each in plain words and as a theorem. The
 -- proofs are elsewhere; here each promise is put together and named. Assumes nothing.
 use mathlib.Core.Path.{_≡_, sym, _∙_}
-use mathlib.Core.Bool.{true, false}
+use mathlib.Core.Bool.{Bool, true, false, false≢true}
 use mathlib.Core.List.{List}
 use Prim.Native.Nat.{ℕ, _+_, _*_, _/_, _≤_, min}
-use native.Mathlib.Omega.{arith}
-use lib.ListN.{length}
+use lib.ListN.{length, take}
 use Rattle.meaning.specs.Formula.{Formula}
 use Rattle.meaning.specs.Game.{isTrue}
 use Rattle.meaning.specs.Tidy.{tidied}
 use Rattle.meaning.specs.WellFormed.{wellFormed, fits, weight, universals, maxText}
-use Rattle.rules.specs.Entry.{Kind, entry, readEntry, logBytes}
-use Rattle.rules.specs.Step.{StepAnswer, stepped, stepOf}
+use Rattle.rules.specs.Entry.{Kind, entry, readEntry}
+use Rattle.rules.specs.Step.{stepped, stepOf}
 use Rattle.rules.specs.Choice.{allowed, blocked, choose, takeStep, stuck}
-use Rattle.rules.specs.Run.{Ran, run, ended, stopped, isTRUE, isFALSE, finished, outOfRoom, stepBound, allApplied, replayBytes}
+use Rattle.rules.specs.Run.{run, ended, stopped, isTRUE, isFALSE, stepBound, allApplied, replay}
 use Rattle.qdimacs.specs.Read.{good, asWritten, read}
 use Rattle.qdimacs.specs.Write.{write}
+use Rattle.meaning.proofs.Basics.{false-of}
 use Rattle.rules.proofs.Answers.{Says, step-says}
 use Rattle.rules.proofs.Kept.{Kept, kept-true, step-kept}
 use Rattle.rules.proofs.Chosen.{takes-allowed, stuck-none, stuck-blocked, stuck-room}
 use Rattle.rules.proofs.First.{First, choose-first}
-use Rattle.rules.proofs.Runs.{RunRight, run-right}
-use Rattle.qdimacs.proofs.Sound.{read-of, of-read, read-well-formed, read-fits, read-truth}
+use Rattle.rules.proofs.Replays.{replay-beginning}
+use Rattle.rules.proofs.Runs.{replay-kept, joined, run-continued, RunRight, run-right}
+use Rattle.qdimacs.proofs.Sound.{of-read, read-well-formed, read-fits, read-truth}
 use Rattle.qdimacs.proofs.Sizes.{write-short}
 use Rattle.qdimacs.proofs.Trip.{round-trip}
 
@@ -84,6 +85,48 @@ verdict text written φ a h E limit bytes =
 pub choosing : (E : ℕ) (φ : Formula) → wellFormed φ ≡ true → fits φ ≡ true → (k : Kind) (a b : ℕ) → choose E φ ≡ takeStep k a b → First E φ k a b
 choosing = choose-first
 
--- It takes none exactly if no entry at all counts; then it is stuck for room exactly if some entry fails only for room.
+-- It takes none exactly if no entry at all counts. Then it is stuck for room exactly if some entry fails only for room.
 pub record StuckRight (E : ℕ) (φ : Formula) : Type 0 where
-  pub none-counts : (r : _) → choose E φ ≡ stuck r → (e : ℕ) → allowed E φ e ≡ false
+  pub none-counts : (r : Bool) → choose E φ ≡ stuck r → (e : ℕ) → allowed E φ e ≡ false
+  pub one-counts : (k : Kind) (a b : ℕ) → choose E φ ≡ takeStep k a b → allowed E φ (entry k a b) ≡ true
+  pub for-room : choose E φ ≡ stuck true → (e : ℕ) × (blocked E φ e ≡ true)
+  pub not-for-room : choose E φ ≡ stuck false → (e : ℕ) → blocked E φ e ≡ false
+
+pub stopping : (E : ℕ) (φ : Formula) → fits φ ≡ true → StuckRight E φ
+stopping E φ f =
+    record {
+      none-counts = stuck-none E φ;
+      one-counts = takes-allowed E φ f;
+      for-room = stuck-room E φ f;
+      not-for-room = λ h e. false-of (blocked E φ e) (λ b. false≢true (stuck-blocked E φ false h e b));
+    }
+
+-- All that is promised of a run from a well formed formula within the limits (`RunRight` has it part by part): every formula on
+-- the way is well formed, within the limits and of the same truth; the log replays to the final formula, with nothing refused and
+-- as many entries as steps; there are at most W + U x (E + 1) of them, and at most the smaller of limit and log room; TRUE and
+-- FALSE are the truth; at FINISHED and OUT OF ROOM no entry at all counts, and OUT OF ROOM says that one failed only for room;
+-- at STOPPED every step that was left is taken and an entry still counts; and where limit and log have room for the bound, the
+-- run does not end STOPPED.
+pub running : (E limit bytes : ℕ) (φ : Formula) → wellFormed φ ≡ true → fits φ ≡ true → RunRight E (min limit (bytes / 4)) φ (run E limit bytes φ)
+unfolding run
+running E limit bytes φ w f = run-right E (min limit (bytes / 4)) φ w f
+
+-- The bound, as document 01 writes it.
+pub bound : (E limit bytes : ℕ) (φ : Formula) → wellFormed φ ≡ true → fits φ ≡ true → length ((run E limit bytes φ) .log) ≤ weight φ + universals (φ .prefix) * (E + 1)
+unfolding stepBound
+bound E limit bytes φ w f = (running E limit bytes φ w f) .few
+
+-- Replay: whatever the log, the formula that it leaves is well formed, within the limits and of the same truth, and is that of the
+-- entries applied, none of which is refused.
+pub replaying : (φ : Formula) → wellFormed φ ≡ true → fits φ ≡ true → (log : List ℕ) → Kept φ ((replay φ log) .formula) × (replay φ (take ((replay φ log) .applied) log) ≡ record { stop = allApplied; formula = (replay φ log) .formula; applied = (replay φ log) .applied })
+replaying φ w f log = (replay-kept φ w f log, replay-beginning φ log)
+
+-- A run that was stopped and goes on: with the same E, from the formula left, and limit and log room that add up to those of one
+-- uninterrupted run, the two give its outcome, its formula and its log in two parts.
+pub continuing : (E l₁ b₁ l₂ b₂ l b : ℕ) (φ : Formula) → min l₁ (b₁ / 4) + min l₂ (b₂ / 4) ≡ min l (b / 4) → (run E l₁ b₁ φ) .outcome ≡ stopped → run E l b φ ≡ joined (run E l₁ b₁ φ) (run E l₂ b₂ ((run E l₁ b₁ φ) .final))
+continuing = run-continued
+
+-- Demand 1, so far as definitions go: each outcome is given by a function of what goes in. So two outcomes that both meet a
+-- definition coincide. It is said once, for every function. ------------------------------------------------------
+pub determined : {A B : Type 0} (f : A → B) (x : A) (y z : B) → y ≡ f x → z ≡ f x → y ≡ z
+determined f x y z p q = p ∙ sym q
