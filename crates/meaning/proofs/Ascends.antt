@@ -26,10 +26,10 @@ ascends-once (j ∷ c) up l k h i e =
     or-elim (eqb l j) (anyOf (λ y. eqb l y) c) h
     (λ x. or-elim (eqb k j) (anyOf (λ y. eqb k y) c) i
     (λ y. eqb-true l j x ∙ sym (eqb-true k j y))
-    (λ y. absurd (ascends-above j c (and-l (allOf (λ k. ltb (var j) (var k)) c) (ascends c) up) k y (sym e ∙ ap var (eqb-true l j x)))))
+    (λ y. absurd (ascends-above j c (search and-l) k y (sym e ∙ ap var (eqb-true l j x)))))
     (λ x. or-elim (eqb k j) (anyOf (λ y. eqb k y) c) i
-    (λ y. absurd (ascends-above j c (and-l (allOf (λ k. ltb (var j) (var k)) c) (ascends c) up) l x (e ∙ ap var (eqb-true k j y))))
-    (λ y. ascends-once c (and-r (allOf (λ k. ltb (var j) (var k)) c) (ascends c) up) l k x y e))
+    (λ y. absurd (ascends-above j c (search and-l) l x (e ∙ ap var (eqb-true k j y))))
+    (λ y. ascends-once c (search and-r) l k x y e))
 
 -- a literal and its opposite differ
 pub opp-differs : (l : ℕ) → opposite l ≡ l → ⊥

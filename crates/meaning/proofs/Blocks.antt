@@ -57,10 +57,10 @@ pub game-past : (q : ℕ) (es p : List ℕ) → OneKind q es → mentions es (va
 unfolding allOf
 game-past q [] p k out m ρ = refl
 game-past q (e ∷ es) p k out m ρ =
-    game-swap q e (es ++ p) (kinds (odd q) (odd e) (and-l (cond (odd q) (odd e) (not (odd e))) (allOf (λ e. cond (odd q) (odd e) (not (odd e))) es) k))
+    game-swap q e (es ++ p) (kinds (odd q) (odd e) (search and-l))
     (eqb-ne (var q) (var e) (λ h. eqb-false (var e) (var q) (unmentioned-head e es (var q) out) (sym h))) m ρ
     ∙ game-cons e (q ∷ (es ++ p)) (es ++ (q ∷ p)) m m ρ ρ
-    (λ b. game-past q es p (and-r (cond (odd q) (odd e) (not (odd e))) (allOf (λ e. cond (odd q) (odd e) (not (odd e))) es) k) (unmentioned-tail e es (var q) out) m (withValue ρ (var e) b))
+    (λ b. game-past q es p (search and-r) (unmentioned-tail e es (var q) out) m (withValue ρ (var e) b))
 
 -- Resolving --------------------------------------------------------------------------------------------------
 -- With the value b for the existential, B and O are left; with the other, A and O. Where A depends on nothing that is chosen

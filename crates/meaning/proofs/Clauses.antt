@@ -67,9 +67,9 @@ phase-false v b c h τ =
     go [] f k = false≢true k
     go (l ∷ d) f k =
         or-elim (eqb (var l) v && litTrue (withValue τ v b) l) (anyOf (λ l. eqb (var l) v && litTrue (withValue τ v b) l) d) k
-        (λ e. one l (eqb-true (var l) v (and-l (eqb (var l) v) (litTrue (withValue τ v b) l) e))
-        (f l (or-il (eqb l l) (anyOf (λ y. eqb l y) d) (eqb-self l)) (eqb-true (var l) v (and-l (eqb (var l) v) (litTrue (withValue τ v b) l) e)))
-        (and-r (eqb (var l) v) (litTrue (withValue τ v b) l) e))
+        (λ e. one l (eqb-true (var l) v (search and-l))
+        (f l (or-il (eqb l l) (anyOf (λ y. eqb l y) d) (eqb-self l)) (eqb-true (var l) v (search and-l)))
+        (search and-r))
         (λ e. go d (λ k₁ e₁. f k₁ (or-ir (eqb k₁ l) (anyOf (λ y. eqb k₁ y) d) e₁)) e)
 
 -- a clause without both phases speaks of v in one phase

@@ -34,18 +34,18 @@ clause-agree : (of : ℕ → Bool) (c : List ℕ) → allOf (λ l. of (var l)) c
 unfolding clauseTrue anyOf allOf litTrue
 clause-agree of [] h τ υ a = refl
 clause-agree of (l ∷ c) h τ υ a =
-    ap₂ _||_ (ap (λ (b : Bool). cond (odd l) (not b) b) (a (var l) (and-l (of (var l)) (allOf (λ l. of (var l)) c) h))) (clause-agree of c (and-r (of (var l)) (allOf (λ l. of (var l)) c) h) τ υ a)
+    ap₂ _||_ (ap (λ (b : Bool). cond (odd l) (not b) b) (a (var l) (search and-l))) (clause-agree of c (search and-r) τ υ a)
 
 clauses-agree : (of : ℕ → Bool) (cs : List (List ℕ)) → allOf (λ c. allOf (λ l. of (var l)) c) cs ≡ true → (τ υ : Values) → Agree of τ υ → allTrue cs τ ≡ allTrue cs υ
 unfolding allTrue allOf
 clauses-agree of [] h τ υ a = refl
 clauses-agree of (c ∷ cs) h τ υ a =
-    ap₂ _&&_ (clause-agree of c (and-l (allOf (λ l. of (var l)) c) (allOf (λ c. allOf (λ l. of (var l)) c) cs) h) τ υ a) (clauses-agree of cs (and-r (allOf (λ l. of (var l)) c) (allOf (λ c. allOf (λ l. of (var l)) c) cs) h) τ υ a)
+    ap₂ _&&_ (clause-agree of c (search and-l) τ υ a) (clauses-agree of cs (search and-r) τ υ a)
 
 -- clauses of the prefix's variables: the truth is the same whatever the other values
 pub closed-truth : (p : List ℕ) (cs : List (List ℕ)) → allOf (bound p) cs ≡ true → (ρ σ : Values) → truth p cs ρ ≡ truth p cs σ
 unfolding truth bound
-closed-truth p cs b ρ σ = game-agree (mentions p) p (allTrue cs) (clauses-agree (mentions p) cs b) ρ σ (λ v x. clash (and-l (mentions p v) (not (mentions p v)) x) (flip (mentions p v) (and-r (mentions p v) (not (mentions p v)) x)))
+closed-truth p cs b ρ σ = game-agree (mentions p) p (allTrue cs) (clauses-agree (mentions p) cs b) ρ σ (λ v x. clash (search and-l) (flip (mentions p v) (search and-r)))
   where
     flip : (s : Bool) → not s ≡ true → s ≡ false
     flip true h = absurd (false≢true h)

@@ -154,7 +154,7 @@ module _ {A : Type 0} where
   pub none-any : (f : A → Bool) (c : List A) → allOf (λ x. not (f x)) c ≡ true → anyOf f c ≡ false
   unfolding anyOf allOf
   none-any f [] h = refl
-  none-any f (x ∷ c) h = rw (not-true (f x) (and-l (not (f x)) (allOf (λ x. not (f x)) c) h)) (none-any f c (and-r (not (f x)) (allOf (λ x. not (f x)) c) h))
+  none-any f (x ∷ c) h = rw (not-true (f x) (search and-l)) (none-any f c (search and-r))
 
   pub any-some : (f : A → Bool) (c : List A) → anyOf f c ≡ true → (x : A) × (f x ≡ true)
   unfolding anyOf

@@ -86,7 +86,7 @@ unfolding reduce
 reduce-peel [] c good = unfold peel in keep-all (stays [] c) c (all-stay c c)
 reduce-peel (q ∷ p) c good =
     by-cases (odd q && not (anyExist p c))
-    (λ h. sym (peel-hit q p c (and-l (odd q) (not (anyExist p c)) h) (not-true (anyExist p c) (and-r (odd q) (not (anyExist p c)) h))
+    (λ h. sym (peel-hit q p c (and-l (odd q) (not (anyExist p c)) h) (search (and-r, not-true))
     ∙ (ap (dropVar (var q)) (sym (reduce-peel p c (good-tail q p good))) ∙ drop-stays (hit h))))
     (λ h. sym (peel-miss q p c h ∙ (sym (reduce-peel p c (good-tail q p good)) ∙ keep-same (stays p c) (stays (q ∷ p) c) c (miss h))))
   where

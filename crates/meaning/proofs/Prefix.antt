@@ -29,7 +29,7 @@ pub eqb-plain : (v q : ℕ) → eqb (2 * v) q ≡ (eqb (var q) v && not (odd q))
 eqb-plain v q =
     iff (eqb (2 * v) q) (eqb (var q) v && not (odd q))
     (λ h. and-i (eqb (var q) v) (not (odd q)) (eqb-eq (ap var (sym (eqb-true (2 * v) q h)) ∙ var-plain v)) (ap not (ap odd (sym (eqb-true (2 * v) q h)) ∙ odd-plain v)))
-    (λ h. eqb-eq (sym (plain-is q (not-true (odd q) (and-r (eqb (var q) v) (not (odd q)) h)) ∙ ap (λ (w : ℕ). 2 * w) (eqb-true (var q) v (and-l (eqb (var q) v) (not (odd q)) h)))))
+    (λ h. eqb-eq (sym (plain-is q (search (and-r, not-true)) ∙ ap (λ (w : ℕ). 2 * w) (eqb-true (var q) v (and-l (eqb (var q) v) (not (odd q)) h)))))
 
 pub eqb-negated : (v q : ℕ) → eqb (2 * v + 1) q ≡ (eqb (var q) v && odd q)
 eqb-negated v q =
@@ -190,8 +190,8 @@ count-all : (m : ℕ) (p : List ℕ) → goodPrefix p ≡ true → allOf (λ q. 
 unfolding allOf
 count-all m [] g h = omega arith
 count-all m (q ∷ p) g h =
-    let k = leb-true (var q) m (and-l (leb (var q) m) (allOf (λ q. leb (var q) m) p) h) in
-    omega (arith, count-all m p (good-tail q p g) (and-r (leb (var q) m) (allOf (λ q. leb (var q) m) p) h), count-more m q p (good-first q p g) k (good-out q p g))
+    let k = leb-true (var q) m (search and-l) in
+    omega (arith, count-all m p (good-tail q p g) (search and-r), count-more m q p (good-first q p g) k (good-out q p g))
 
 -- a prefix of variables 1 to m, each once, has at most m entries
 pub prefix-few : (m : ℕ) (p : List ℕ) → goodPrefix p ≡ true → allOf (λ q. leb (var q) m) p ≡ true → length p ≤ m

@@ -43,7 +43,7 @@ peel-truth : (p c : List ℕ) → goodPrefix p ≡ true → bothPhases c ≡ fal
 peel-truth [] c good no-both m ρ = unfold peel in refl
 peel-truth (q ∷ p) c good no-both m ρ =
     by-cases (odd q && not (anyExist p c))
-    (λ h. peel-one q p c good no-both (and-l (odd q) (not (anyExist p c)) h) (not-true (anyExist p c) (and-r (odd q) (not (anyExist p c)) h)) m ρ)
+    (λ h. peel-one q p c good no-both (and-l (odd q) (not (anyExist p c)) h) (search (and-r, not-true)) m ρ)
     (λ h. ap (λ (d : List ℕ). game (q ∷ p) (λ τ. clauseTrue d τ && m τ) ρ) (peel-miss q p c h))
     ∙ game-cons q p p (λ τ. clauseTrue (peel p c) τ && m τ) (λ τ. clauseTrue c τ && m τ) ρ ρ
     (λ b. peel-truth p c (good-tail q p good) no-both m (withValue ρ (var q) b))

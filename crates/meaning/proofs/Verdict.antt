@@ -19,7 +19,7 @@ empty-false [] h τ = absurd (false≢true h)
 empty-false (c ∷ cs) h τ =
     or-elim (same [] c) (anyOf (same []) cs) h
     (λ e. ap (λ (b : Bool). b && allTrue cs τ) (ap (λ (d : List ℕ). clauseTrue d τ) (sym (same-path [] c e)) ∙ nothing))
-    (λ e. false-of (clauseTrue c τ && allTrue cs τ) (λ k. clash (and-r (clauseTrue c τ) (allTrue cs τ) k) (empty-false cs e τ)))
+    (λ e. false-of (clauseTrue c τ && allTrue cs τ) (λ k. clash (search and-r) (empty-false cs e τ)))
   where
     nothing : clauseTrue [] τ ≡ false
     nothing = unfold clauseTrue anyOf in refl

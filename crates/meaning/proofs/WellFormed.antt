@@ -67,17 +67,17 @@ ge-of m n h = nltb→le m n (T-of (not (ltb m n)) (ap not h))
 insert-above : (j l : ℕ) (c : List ℕ) → ltb j l ≡ true → allOf (λ k. ltb j k) c ≡ true → allOf (λ k. ltb j k) (insertNew l c) ≡ true
 unfolding allOf insertNew
 insert-above j l [] h a = ap (λ (b : Bool). b && true) h
-insert-above j l (k ∷ c) h a = go (ltb l k) (eqb l k) (insert-above j l c h (and-r (ltb j k) (allOf (λ k. ltb j k) c) a))
+insert-above j l (k ∷ c) h a = go (ltb l k) (eqb l k) (insert-above j l c h (search and-r))
   where
     go : (s t : Bool) → allOf (λ k. ltb j k) (insertNew l c) ≡ true → allOf (λ k. ltb j k) (cond s (l ∷ k ∷ c) (cond t (k ∷ c) (k ∷ insertNew l c))) ≡ true
     go true t ih = and-i (ltb j l) (ltb j k && allOf (λ k. ltb j k) c) h a
     go false true ih = a
-    go false false ih = and-i (ltb j k) (allOf (λ k. ltb j k) (insertNew l c)) (and-l (ltb j k) (allOf (λ k. ltb j k) c) a) ih
+    go false false ih = and-i (ltb j k) (allOf (λ k. ltb j k) (insertNew l c)) (search and-l) ih
 
 insert-rises : (l : ℕ) (c : List ℕ) → rises c ≡ true → rises (insertNew l c) ≡ true
 unfolding rises insertNew allOf
 insert-rises l [] h = refl
-insert-rises l (k ∷ c) h = go (ltb l k) (eqb l k) refl refl (insert-rises l c (and-r (allOf (λ i. ltb k i) c) (rises c) h))
+insert-rises l (k ∷ c) h = go (ltb l k) (eqb l k) refl refl (insert-rises l c (search and-r))
   where
     above : allOf (λ i. ltb k i) c ≡ true
     above = and-l (allOf (λ i. ltb k i) c) (rises c) h
@@ -113,9 +113,9 @@ rises-ascends [] r once = refl
 rises-ascends (l ∷ c) r once =
     and-i (allOf (λ k. ltb (var l) (var k)) c) (ascends c)
     (all-of-has (λ k. ltb (var l) (var k)) c
-    (λ k h. of-lt (var l) (var k) (above-var l k (lt-of l k (all-has (λ k. ltb l k) c k (and-l (allOf (λ k. ltb l k) c) (rises c) r) h))
+    (λ k h. of-lt (var l) (var k) (above-var l k (lt-of l k (all-has (λ k. ltb l k) c k (search and-l) h))
     (λ e. clash (subst (λ (i : ℕ). has i c ≡ true) e h) (or-r (eqb (opposite l) l) (has (opposite l) c) (once l (or-il (eqb l l) (has l c) (eqb-self l))))))))
-    (rises-ascends c (and-r (allOf (λ k. ltb l k) c) (rises c) r) (λ i h. or-r (eqb (opposite i) l) (has (opposite i) c) (once i (or-ir (eqb i l) (has i c) h))))
+    (rises-ascends c (search and-r) (λ i h. or-r (eqb (opposite i) l) (has (opposite i) c) (once i (or-ir (eqb i l) (has i c) h))))
 
 keep-ascends : (t : ℕ → Bool) (c : List ℕ) → ascends c ≡ true → ascends (keepIf t c) ≡ true
 unfolding ascends keepIf
@@ -123,8 +123,8 @@ keep-ascends t [] h = refl
 keep-ascends t (l ∷ c) h =
     by-cases (t l)
     (λ e. ap (λ (b : Bool). ascends (cond b (l ∷ keepIf t c) (keepIf t c))) e
-    ∙ and-i (allOf (λ k. ltb (var l) (var k)) (keepIf t c)) (ascends (keepIf t c)) (all-keep-le (λ k. ltb (var l) (var k)) t c (and-l (allOf (λ k. ltb (var l) (var k)) c) (ascends c) h)) (keep-ascends t c (and-r (allOf (λ k. ltb (var l) (var k)) c) (ascends c) h)))
-    (λ e. ap (λ (b : Bool). ascends (cond b (l ∷ keepIf t c) (keepIf t c))) e ∙ keep-ascends t c (and-r (allOf (λ k. ltb (var l) (var k)) c) (ascends c) h))
+    ∙ and-i (allOf (λ k. ltb (var l) (var k)) (keepIf t c)) (ascends (keepIf t c)) (all-keep-le (λ k. ltb (var l) (var k)) t c (search and-l)) (keep-ascends t c (search and-r)))
+    (λ e. ap (λ (b : Bool). ascends (cond b (l ∷ keepIf t c) (keepIf t c))) e ∙ keep-ascends t c (search and-r))
 
 -- A tidied clause is tidy ------------------------------------------------------------------------------------
 pub reduce-tidy : (p c : List ℕ) → goodPrefix p ≡ true → bound p c ≡ true → bothPhases (ascending c) ≡ false → tidyClause p (reduce p (ascending c)) ≡ true
@@ -145,8 +145,8 @@ unfolding distinct anyOf
 distinct-more [] c h n = refl
 distinct-more (b ∷ cs) c h n =
     and-i (not (anyOf (same b) (cs ++ (c ∷ [])))) (distinct (cs ++ (c ∷ [])))
-    (ap not (any-append (same b) cs (c ∷ []) ∙ ap₂ _||_ (not-true (anyOf (same b) cs) (and-l (not (anyOf (same b) cs)) (distinct cs) h)) (ap (λ (x : Bool). x || false) (same-turn c b (or-l (same c b) (anyOf (same c) cs) n)))))
-    (distinct-more cs c (and-r (not (anyOf (same b) cs)) (distinct cs) h) (or-r (same c b) (anyOf (same c) cs) n))
+    (ap not (any-append (same b) cs (c ∷ []) ∙ ap₂ _||_ (not-true (anyOf (same b) cs) (search and-l)) (ap (λ (x : Bool). x || false) (same-turn c b (or-l (same c b) (anyOf (same c) cs) n)))))
+    (distinct-more cs c (search and-r) (or-r (same c b) (anyOf (same c) cs) n))
 
 -- Building ---------------------------------------------------------------------------------------------------
 abbrev pub Fine : List ℕ → List (List ℕ) → Type 0
@@ -169,7 +169,7 @@ buildOn-fine : (p : List ℕ) → goodPrefix p ≡ true → (cs raws : List (Lis
 unfolding buildOn allOf
 buildOn-fine p good cs [] b fine = fine
 buildOn-fine p good cs (c ∷ raws) b fine =
-    buildOn-fine p good (addTidied cs (tidy p c)) raws (and-r (bound p c) (allOf (bound p) raws) b) (add-fine p good cs c (and-l (bound p c) (allOf (bound p) raws) b) fine)
+    buildOn-fine p good (addTidied cs (tidy p c)) raws (search and-r) (add-fine p good cs c (search and-l) fine)
 
 -- over a good prefix, clauses of its variables become a well formed formula
 pub tidied-well-formed : (r : Formula) → goodPrefix (r .prefix) ≡ true → allOf (bound (r .prefix)) (r .clauses) ≡ true → wellFormed (tidied r) ≡ true
