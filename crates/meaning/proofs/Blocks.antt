@@ -28,11 +28,13 @@ choice-swap : (q e : ℕ) → odd q ≡ odd e → (a b c d : Bool) → choice q 
 unfolding choice
 choice-swap q e k a b c d = rw k (go (odd e))
   where
-    go : (s : Bool) → cond s (cond s (a && b) (a || b) && cond s (c && d) (c || d)) (cond s (a && b) (a || b) || cond s (c && d) (c || d)) ≡ cond s (cond s (a && c) (a || c) && cond s (b && d) (b || d)) (cond s (a && c) (a || c) || cond s (b && d) (b || d))
+    go : (s : Bool)
+        → cond s (cond s (a && b) (a || b) && cond s (c && d) (c || d)) (cond s (a && b) (a || b) || cond s (c && d) (c || d)) ≡ cond s (cond s (a && c) (a || c) && cond s (b && d) (b || d)) (cond s (a && c) (a || c) || cond s (b && d) (b || d))
     go true = and-swap a b c d
     go false = or-swap a b c d
 
-pub game-swap : (q e : ℕ) (p : List ℕ) → odd q ≡ odd e → eqb (var q) (var e) ≡ false → (m : Values → Bool) (ρ : Values) → game (q ∷ e ∷ p) m ρ ≡ game (e ∷ q ∷ p) m ρ
+pub game-swap : (q e : ℕ) (p : List ℕ) → odd q ≡ odd e → eqb (var q) (var e) ≡ false → (m : Values → Bool) (ρ : Values)
+    → game (q ∷ e ∷ p) m ρ ≡ game (e ∷ q ∷ p) m ρ
 unfolding game
 game-swap q e p k d m ρ =
     choice-swap q e k (at false false) (at false true) (at true false) (at true true)
@@ -53,7 +55,8 @@ kinds true t h = sym h
 kinds false true h = h
 kinds false false h = refl
 
-pub game-past : (q : ℕ) (es p : List ℕ) → OneKind q es → mentions es (var q) ≡ false → (m : Values → Bool) (ρ : Values) → game (q ∷ (es ++ p)) m ρ ≡ game (es ++ (q ∷ p)) m ρ
+pub game-past : (q : ℕ) (es p : List ℕ) → OneKind q es → mentions es (var q) ≡ false → (m : Values → Bool) (ρ : Values)
+    → game (q ∷ (es ++ p)) m ρ ≡ game (es ++ (q ∷ p)) m ρ
 unfolding allOf
 game-past q [] p k out m ρ = refl
 game-past q (e ∷ es) p k out m ρ =
@@ -75,7 +78,9 @@ or-either X true = go (X false) (X true)
     go false false = refl
 or-either X false = refl
 
-pub exists-resolve : (q : ℕ) (p : List ℕ) → odd q ≡ false → mentions p (var q) ≡ false → (m A B O : Values → Bool) (b : Bool) → FreeOf p A → ((τ : Values) → m (withValue τ (var q) b) ≡ (B τ && O τ)) → ((τ : Values) → m (withValue τ (var q) (not b)) ≡ (A τ && O τ)) → (ρ : Values) → game (q ∷ p) m ρ ≡ game p (λ τ. (A τ || B τ) && O τ) ρ
+pub exists-resolve : (q : ℕ) (p : List ℕ) → odd q ≡ false → mentions p (var q) ≡ false → (m A B O : Values → Bool) (b : Bool) → FreeOf p A
+    → ((τ : Values) → m (withValue τ (var q) b) ≡ (B τ && O τ)) → ((τ : Values) → m (withValue τ (var q) (not b)) ≡ (A τ && O τ)) → (ρ : Values)
+    → game (q ∷ p) m ρ ≡ game p (λ τ. (A τ || B τ) && O τ) ρ
 unfolding game
 exists-resolve q p ev out m A B O b free one two ρ =
     choice-exists q (game p m (withValue ρ (var q) false)) (game p m (withValue ρ (var q) true)) ev
@@ -84,7 +89,8 @@ exists-resolve q p ev out m A B O b free one two ρ =
     ∙ (go (A ρ)
     ∙ sym (game-know p A free (λ x τ. (x || B τ) && O τ) ρ))))
   where
-    at : (x : Bool) (C : Values → Bool) → ((τ : Values) → m (withValue τ (var q) x) ≡ (C τ && O τ)) → game p m (withValue ρ (var q) x) ≡ game p (λ τ. C τ && O τ) ρ
+    at : (x : Bool) (C : Values → Bool) → ((τ : Values) → m (withValue τ (var q) x) ≡ (C τ && O τ))
+        → game p m (withValue ρ (var q) x) ≡ game p (λ τ. C τ && O τ) ρ
     at x C h = game-subst p (var q) out (λ _. x) (free-const p x) m ρ ∙ game-ext p (λ τ. m (withValue τ (var q) x)) (λ τ. C τ && O τ) h ρ
 
     or-le : (x y : Bool) → (x ≡ true → y ≡ true) → (x || y) ≡ y
@@ -107,7 +113,8 @@ pub free-game : (p p′ : List ℕ) (m : Values → Bool) → FreeOf p m → Fre
 free-game p p′ m f v h = game-free p′ v m (f v h)
 
 -- two games over different variables are one
-pub game-pair : (p p′ : List ℕ) (m m′ : Values → Bool) → FreeOf p′ m → FreeOf p m′ → (ρ : Values) → game (p ++ p′) (λ τ. m τ && m′ τ) ρ ≡ (game p m ρ && game p′ m′ ρ)
+pub game-pair : (p p′ : List ℕ) (m m′ : Values → Bool) → FreeOf p′ m → FreeOf p m′ → (ρ : Values)
+    → game (p ++ p′) (λ τ. m τ && m′ τ) ρ ≡ (game p m ρ && game p′ m′ ρ)
 game-pair p p′ m m′ f g ρ =
     game-append p p′ (λ τ. m τ && m′ τ) ρ
     ∙ (game-ext p (game p′ (λ τ. m τ && m′ τ)) (λ τ. game p′ m′ τ && m τ) (λ τ. game-and p′ m m′ f τ ∙ and-comm (m τ) (game p′ m′ τ)) ρ
@@ -115,7 +122,9 @@ game-pair p p′ m m′ f g ρ =
     ∙ and-comm (game p′ m′ ρ) (game p m ρ)))
 
 -- A universal u directly before p: with u false A and F are left, with u true A and G; H over p′ is G over p, renamed.
-pub forall-expand : (u : ℕ) (p p′ : List ℕ) → odd u ≡ true → mentions p (var u) ≡ false → (m A F G H : Values → Bool) → FreeOf p A → FreeOf p′ A → FreeOf p′ F → FreeOf p H → ((τ : Values) → m (withValue τ (var u) false) ≡ (A τ && F τ)) → ((τ : Values) → m (withValue τ (var u) true) ≡ (A τ && G τ)) → ((τ : Values) → game p G τ ≡ game p′ H τ) → (ρ : Values) → game (u ∷ p) m ρ ≡ game (p ++ p′) (λ τ. A τ && (F τ && H τ)) ρ
+pub forall-expand : (u : ℕ) (p p′ : List ℕ) → odd u ≡ true → mentions p (var u) ≡ false → (m A F G H : Values → Bool) → FreeOf p A → FreeOf p′ A → FreeOf p′ F
+    → FreeOf p H → ((τ : Values) → m (withValue τ (var u) false) ≡ (A τ && F τ)) → ((τ : Values) → m (withValue τ (var u) true) ≡ (A τ && G τ))
+    → ((τ : Values) → game p G τ ≡ game p′ H τ) → (ρ : Values) → game (u ∷ p) m ρ ≡ game (p ++ p′) (λ τ. A τ && (F τ && H τ)) ρ
 unfolding game
 forall-expand u p p′ od out m A F G H fa fa′ ff fh zero one ren ρ =
     choice-forall u (game p m (withValue ρ (var u) false)) (game p m (withValue ρ (var u) true)) od

@@ -13,7 +13,7 @@ use Rattle.meaning.proofs.Game.{Free, unmentioned-head, unmentioned-tai
 use Rattle.meaning.proofs.Literals.{lit-with, lit-with-other, lit-opp, plain-is, negated-is, odd-plain, var-plain, opp-even}
 use Rattle.meaning.proofs.Lists.{all-append, any-split, any-keep, any-keep-le, any-has, none-any}
 
--- (a) a clause depends on its own variables only
+-- a clause depends on its own variables only
 pub clause-free : (c : List ℕ) (v : ℕ) → mentions c v ≡ false → Free v (clauseTrue c)
 unfolding clauseTrue anyOf
 clause-free [] v out ρ b = refl
@@ -50,7 +50,8 @@ unfolding clauseTrue dropVar
 clause-split v c τ = any-split (litTrue τ) (isVar v) c
 
 -- the part of a clause that speaks of v, always in the phase b, is false where v has the value b (true for negated literals)
-pub phase-false : (v : ℕ) (b : Bool) (c : List ℕ) → ((l : ℕ) → has l c ≡ true → var l ≡ v → odd l ≡ b) → (τ : Values) → clauseTrue (keepIf (isVar v) c) (withValue τ v b) ≡ false
+pub phase-false : (v : ℕ) (b : Bool) (c : List ℕ) → ((l : ℕ) → has l c ≡ true → var l ≡ v → odd l ≡ b) → (τ : Values)
+    → clauseTrue (keepIf (isVar v) c) (withValue τ v b) ≡ false
 unfolding clauseTrue anyOf has isVar
 phase-false v b c h τ =
     false-of (anyOf (litTrue (withValue τ v b)) (keepIf (isVar v) c))
@@ -90,7 +91,8 @@ both-true c h τ =
     by-cases (anyOf (litTrue τ) c) (λ e. e)
     (λ e. absurd (no c (λ l k. false-of (litTrue τ l) (λ t. clash (any-has (litTrue τ) c l k t) e)) (λ l k. k) h))
   where
-    no : (d : List ℕ) → ((l : ℕ) → has l c ≡ true → litTrue τ l ≡ false) → ((l : ℕ) → has l d ≡ true → has l c ≡ true) → anyOf (λ l. has (opposite l) c) d ≡ true → ⊥
+    no : (d : List ℕ) → ((l : ℕ) → has l c ≡ true → litTrue τ l ≡ false) → ((l : ℕ) → has l d ≡ true → has l c ≡ true)
+        → anyOf (λ l. has (opposite l) c) d ≡ true → ⊥
     no [] f g k = false≢true k
     no (l ∷ d) f g k =
         or-elim (anyOf (λ y. eqb (opposite l) y) c) (anyOf (λ l. has (opposite l) c) d) k

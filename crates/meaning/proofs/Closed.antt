@@ -1,4 +1,4 @@
--- (a) The truth depends on the variables that occur and are in no prefix: for a well formed formula on nothing.
+-- The truth depends on the variables that occur and are in no prefix: for a well formed formula on nothing.
 -- Assumes nothing.
 use mathlib.Core.Path.{_≡_, refl, sym, _∙_, ap, ap₂, subst}
 use Prim.Native.Nat.{ℕ}
@@ -16,7 +16,8 @@ use Rattle.meaning.proofs.Game.{with-same, with-other, game-cons}
 abbrev pub Agree : (ℕ → Bool) → Values → Values → Type 0
 Agree of ρ σ = (v : ℕ) → of v ≡ true → ρ v ≡ σ v
 
-pub game-agree : (of : ℕ → Bool) (p : List ℕ) (m : Values → Bool) → ((τ υ : Values) → Agree of τ υ → m τ ≡ m υ) → (ρ σ : Values) → Agree (λ v. of v && not (mentions p v)) ρ σ → game p m ρ ≡ game p m σ
+pub game-agree : (of : ℕ → Bool) (p : List ℕ) (m : Values → Bool) → ((τ υ : Values) → Agree of τ υ → m τ ≡ m υ) → (ρ σ : Values)
+    → Agree (λ v. of v && not (mentions p v)) ρ σ → game p m ρ ≡ game p m σ
 game-agree of [] m h ρ σ a = unfold game in h ρ σ (λ v x. a v (all v x))
   where
     all : (v : ℕ) → of v ≡ true → (of v && not (mentions [] v)) ≡ true
@@ -36,7 +37,8 @@ clause-agree of [] h τ υ a = refl
 clause-agree of (l ∷ c) h τ υ a =
     ap₂ _||_ (ap (λ (b : Bool). cond (odd l) (not b) b) (a (var l) (search and-l))) (clause-agree of c (search and-r) τ υ a)
 
-clauses-agree : (of : ℕ → Bool) (cs : List (List ℕ)) → allOf (λ c. allOf (λ l. of (var l)) c) cs ≡ true → (τ υ : Values) → Agree of τ υ → allTrue cs τ ≡ allTrue cs υ
+clauses-agree : (of : ℕ → Bool) (cs : List (List ℕ)) → allOf (λ c. allOf (λ l. of (var l)) c) cs ≡ true → (τ υ : Values) → Agree of τ υ
+    → allTrue cs τ ≡ allTrue cs υ
 unfolding allTrue allOf
 clauses-agree of [] h τ υ a = refl
 clauses-agree of (c ∷ cs) h τ υ a =

@@ -120,7 +120,8 @@ pub free-const : (p : List ℕ) (b : Bool) → FreeOf p (λ _. b)
 free-const p b v h ρ c = refl
 
 -- both values alike
-pub game-cons : (q : ℕ) (p p′ : List ℕ) (m m′ : Values → Bool) (ρ ρ′ : Values) → ((b : Bool) → game p m (withValue ρ (var q) b) ≡ game p′ m′ (withValue ρ′ (var q) b)) → game (q ∷ p) m ρ ≡ game (q ∷ p′) m′ ρ′
+pub game-cons : (q : ℕ) (p p′ : List ℕ) (m m′ : Values → Bool) (ρ ρ′ : Values)
+    → ((b : Bool) → game p m (withValue ρ (var q) b) ≡ game p′ m′ (withValue ρ′ (var q) b)) → game (q ∷ p) m ρ ≡ game (q ∷ p′) m′ ρ′
 unfolding game
 game-cons q p p′ m m′ ρ ρ′ h = ap₂ (choice q) (h false) (h true)
 
@@ -132,7 +133,8 @@ game-know (q ∷ p) a free f ρ = game-cons q p p (λ τ. f (a τ) τ) (f (a ρ)
     (λ b. game-know p a (free-tail q p a free) f (withValue ρ (var q) b) ∙ ap (λ (x : Bool). game p (f x) (withValue ρ (var q) b)) (free (var q) (mentions-head q p) ρ b))
 
 -- a value that was chosen before, by a rule that the rest of the game does not touch, is put into the judge
-pub game-subst : (p : List ℕ) (v : ℕ) → mentions p v ≡ false → (g : Values → Bool) → FreeOf p g → (m : Values → Bool) (ρ : Values) → game p m (withValue ρ v (g ρ)) ≡ game p (λ τ. m (withValue τ v (g τ))) ρ
+pub game-subst : (p : List ℕ) (v : ℕ) → mentions p v ≡ false → (g : Values → Bool) → FreeOf p g → (m : Values → Bool) (ρ : Values)
+    → game p m (withValue ρ v (g ρ)) ≡ game p (λ τ. m (withValue τ v (g τ))) ρ
 unfolding game
 game-subst [] v out g free m ρ = refl
 game-subst (q ∷ p) v out g free m ρ = game-cons q p p m (λ τ. m (withValue τ v (g τ))) (withValue ρ v (g ρ)) ρ
@@ -158,12 +160,12 @@ game-and p a m free ρ = game-know p a free (λ b τ. b && m τ) ρ ∙ go (a ρ
     go true = refl
     go false = game-const p false ρ
 
--- (a) a variable on which the judge does not depend may be dropped from the prefix
+-- a variable on which the judge does not depend may be dropped from the prefix
 pub game-drop : (q : ℕ) (p : List ℕ) (m : Values → Bool) → Free (var q) m → (ρ : Values) → game (q ∷ p) m ρ ≡ game p m ρ
 unfolding game
 game-drop q p m free ρ = ap₂ (choice q) (game-free p (var q) m free ρ false) (game-free p (var q) m free ρ true) ∙ choice-same q (game p m ρ)
 
--- (c) An existential for which one value is always at least as good as the other takes it (unit, pure, equality): g is that
+-- An existential for which one value is always at least as good as the other takes it (unit, pure, equality): g is that
 -- value, by what stands left of it.
 or-pick : (X : Bool → Bool) (b : Bool) → (X (not b) ≡ true → X b ≡ true) → (X false || X true) ≡ X b
 or-pick X true h = iff (X false || X true) (X true) (λ k. or-elim (X false) (X true) k h (λ e. e)) (or-ir (X false) (X true))
@@ -183,7 +185,8 @@ module _ (q : ℕ) (p : List ℕ) (out : mentions p (var q) ≡ false) (g : Valu
   other : (ρ : Values) → game p m (withValue ρ (var q) (not (g ρ))) ≡ game p (λ τ. m (withValue τ (var q) (not (g τ)))) ρ
   other ρ = game-subst p (var q) out (λ τ. not (g τ)) (free-not p g free) m ρ
 
-  pub exists-best : odd q ≡ false → ((τ : Values) → m (withValue τ (var q) (not (g τ))) ≡ true → m (withValue τ (var q) (g τ)) ≡ true) → (ρ : Values) → game (q ∷ p) m ρ ≡ game p (λ τ. m (withValue τ (var q) (g τ))) ρ
+  pub exists-best : odd q ≡ false → ((τ : Values) → m (withValue τ (var q) (not (g τ))) ≡ true → m (withValue τ (var q) (g τ)) ≡ true) → (ρ : Values)
+      → game (q ∷ p) m ρ ≡ game p (λ τ. m (withValue τ (var q) (g τ))) ρ
   unfolding game
   exists-best ev h ρ =
       choice-exists q (game p m (withValue ρ (var q) false)) (game p m (withValue ρ (var q) true)) ev
@@ -192,7 +195,8 @@ module _ (q : ℕ) (p : List ℕ) (out : mentions p (var q) ≡ false) (g : Valu
       ∙ chosen ρ
 
   -- and a universal takes the value that is never better
-  pub forall-worst : odd q ≡ true → ((τ : Values) → m (withValue τ (var q) (g τ)) ≡ true → m (withValue τ (var q) (not (g τ))) ≡ true) → (ρ : Values) → game (q ∷ p) m ρ ≡ game p (λ τ. m (withValue τ (var q) (g τ))) ρ
+  pub forall-worst : odd q ≡ true → ((τ : Values) → m (withValue τ (var q) (g τ)) ≡ true → m (withValue τ (var q) (not (g τ))) ≡ true) → (ρ : Values)
+      → game (q ∷ p) m ρ ≡ game p (λ τ. m (withValue τ (var q) (g τ))) ρ
   unfolding game
   forall-worst od h ρ =
       choice-forall q (game p m (withValue ρ (var q) false)) (game p m (withValue ρ (var q) true)) od
@@ -200,9 +204,10 @@ module _ (q : ℕ) (p : List ℕ) (out : mentions p (var q) ≡ false) (g : Valu
       (λ k. other ρ ∙ game-le p (λ τ. m (withValue τ (var q) (g τ))) (λ τ. m (withValue τ (var q) (not (g τ)))) h ρ (sym (chosen ρ) ∙ k))
       ∙ chosen ρ
 
--- (b) A part l that some value of a universal makes false counts for nothing, where the rest c of the clause depends on
+-- A part l that some value of a universal makes false counts for nothing, where the rest c of the clause depends on
 -- nothing from there on.
-pub forall-reduce : (q : ℕ) (p : List ℕ) → odd q ≡ true → mentions p (var q) ≡ false → (c l m : Values → Bool) → FreeOf (q ∷ p) c → (b : Bool) → ((τ : Values) → l (withValue τ (var q) b) ≡ false) → (ρ : Values) → game (q ∷ p) (λ τ. (c τ || l τ) && m τ) ρ ≡ game (q ∷ p) (λ τ. c τ && m τ) ρ
+pub forall-reduce : (q : ℕ) (p : List ℕ) → odd q ≡ true → mentions p (var q) ≡ false → (c l m : Values → Bool) → FreeOf (q ∷ p) c → (b : Bool)
+    → ((τ : Values) → l (withValue τ (var q) b) ≡ false) → (ρ : Values) → game (q ∷ p) (λ τ. (c τ || l τ) && m τ) ρ ≡ game (q ∷ p) (λ τ. c τ && m τ) ρ
 unfolding game
 forall-reduce q p od out c l m free b no-l ρ =
     game-know (q ∷ p) c free (λ x τ. (x || l τ) && m τ) ρ ∙ (go (c ρ) ∙ sym (game-know (q ∷ p) c free (λ x τ. x && m τ) ρ))

@@ -47,7 +47,8 @@ module _ {A : Type 0} where
       assoc true b e = refl
       assoc false b e = refl
 
-      go : (s : Bool) → (f x || (anyOf f (keepIf (λ x. not (t x)) c) || anyOf f (keepIf t c))) ≡ (anyOf f (cond (not s) (x ∷ keepIf (λ x. not (t x)) c) (keepIf (λ x. not (t x)) c)) || anyOf f (cond s (x ∷ keepIf t c) (keepIf t c)))
+      go : (s : Bool)
+          → (f x || (anyOf f (keepIf (λ x. not (t x)) c) || anyOf f (keepIf t c))) ≡ (anyOf f (cond (not s) (x ∷ keepIf (λ x. not (t x)) c) (keepIf (λ x. not (t x)) c)) || anyOf f (cond s (x ∷ keepIf t c) (keepIf t c)))
       go true = swap (f x) (anyOf f (keepIf (λ x. not (t x)) c)) (anyOf f (keepIf t c))
       go false = assoc (f x) (anyOf f (keepIf (λ x. not (t x)) c)) (anyOf f (keepIf t c))
 
@@ -65,7 +66,8 @@ module _ {A : Type 0} where
       assoc true b e = refl
       assoc false b e = refl
 
-      go : (s : Bool) → (f x && (allOf f (keepIf (λ x. not (t x)) c) && allOf f (keepIf t c))) ≡ (allOf f (cond (not s) (x ∷ keepIf (λ x. not (t x)) c) (keepIf (λ x. not (t x)) c)) && allOf f (cond s (x ∷ keepIf t c) (keepIf t c)))
+      go : (s : Bool)
+          → (f x && (allOf f (keepIf (λ x. not (t x)) c) && allOf f (keepIf t c))) ≡ (allOf f (cond (not s) (x ∷ keepIf (λ x. not (t x)) c) (keepIf (λ x. not (t x)) c)) && allOf f (cond s (x ∷ keepIf t c) (keepIf t c)))
       go true = swap (f x) (allOf f (keepIf (λ x. not (t x)) c)) (allOf f (keepIf t c))
       go false = assoc (f x) (allOf f (keepIf (λ x. not (t x)) c)) (allOf f (keepIf t c))
 
@@ -207,7 +209,8 @@ any-insert f l (k ∷ c) = go (ltb l k) (eqb l k) (eqb-true l k) (any-insert f l
     swap true false e = refl
     swap false b e = refl
 
-    go : (s t : Bool) → (t ≡ true → l ≡ k) → anyOf f (insertNew l c) ≡ (f l || anyOf f c) → anyOf f (cond s (l ∷ k ∷ c) (cond t (k ∷ c) (k ∷ insertNew l c))) ≡ (f l || (f k || anyOf f c))
+    go : (s t : Bool) → (t ≡ true → l ≡ k) → anyOf f (insertNew l c) ≡ (f l || anyOf f c)
+        → anyOf f (cond s (l ∷ k ∷ c) (cond t (k ∷ c) (k ∷ insertNew l c))) ≡ (f l || (f k || anyOf f c))
     go true t e ih = refl
     go false true e ih = rw (e refl) (twice (f k) (anyOf f c))
     go false false e ih = ap (λ (b : Bool). f k || b) ih ∙ swap (f k) (f l) (anyOf f c)
@@ -251,7 +254,8 @@ unfolding keepIf
 keep-twice f g h e [] = refl
 keep-twice f g h e (x ∷ c) = go (g x) (f x) refl (h x) (e x) (keep-twice f g h e c)
   where
-    go : (s t : Bool) → f x ≡ t → (u : Bool) → (f x && s) ≡ u → keepIf f (keepIf g c) ≡ keepIf h c → keepIf f (cond s (x ∷ keepIf g c) (keepIf g c)) ≡ cond u (x ∷ keepIf h c) (keepIf h c)
+    go : (s t : Bool) → f x ≡ t → (u : Bool) → (f x && s) ≡ u → keepIf f (keepIf g c) ≡ keepIf h c
+        → keepIf f (cond s (x ∷ keepIf g c) (keepIf g c)) ≡ cond u (x ∷ keepIf h c) (keepIf h c)
     go true true a u b ih = ap (λ (z : Bool). cond z (x ∷ keepIf f (keepIf g c)) (keepIf f (keepIf g c))) a ∙ (ap (λ (r : List ℕ). x ∷ r) ih ∙ ap (λ (z : Bool). cond z (x ∷ keepIf h c) (keepIf h c)) (sym (ap (λ (z : Bool). z && true) a) ∙ b))
     go true false a u b ih = ap (λ (z : Bool). cond z (x ∷ keepIf f (keepIf g c)) (keepIf f (keepIf g c))) a ∙ (ih ∙ ap (λ (z : Bool). cond z (x ∷ keepIf h c) (keepIf h c)) (sym (ap (λ (z : Bool). z && true) a) ∙ b))
     go false true a u b ih = ih ∙ ap (λ (z : Bool). cond z (x ∷ keepIf h c) (keepIf h c)) (sym (ap (λ (z : Bool). z && false) a) ∙ b)

@@ -90,7 +90,8 @@ reduce-peel (q ∷ p) c good =
     ∙ (ap (dropVar (var q)) (sym (reduce-peel p c (good-tail q p good))) ∙ drop-stays (hit h))))
     (λ h. sym (peel-miss q p c h ∙ (sym (reduce-peel p c (good-tail q p good)) ∙ keep-same (stays p c) (stays (q ∷ p) c) c (miss h))))
   where
-    drop-stays : ((l : ℕ) → (not (eqb (var l) (var q)) && stays p c l) ≡ stays (q ∷ p) c l) → dropVar (var q) (keepIf (stays p c) c) ≡ keepIf (stays (q ∷ p) c) c
+    drop-stays : ((l : ℕ) → (not (eqb (var l) (var q)) && stays p c l) ≡ stays (q ∷ p) c l)
+        → dropVar (var q) (keepIf (stays p c) c) ≡ keepIf (stays (q ∷ p) c) c
     drop-stays h = unfold dropVar isVar in keep-twice (λ k. not (eqb (var k) (var q))) (stays p c) (stays (q ∷ p) c) h c
 
     gone : (s t : Bool) → (s && not t) ≡ true → (not s || t) ≡ false

@@ -1,4 +1,4 @@
--- (b) Tidying keeps the truth: so does building a list of clauses. Assumes nothing.
+-- Tidying keeps the truth: so does building a list of clauses. Assumes nothing.
 use mathlib.Core.Path.{_≡_, refl, sym, _∙_, ap, subst}
 use Prim.Native.Nat.{ℕ, _*_}
 use mathlib.Core.Bool.{Bool, true, false, _&&_, _||_, not, cond, false≢true}
@@ -17,7 +17,8 @@ use Rattle.meaning.proofs.Peel.{peel, peel-hit, peel-miss, peel-le, pee
 use Rattle.meaning.proofs.Clauses.{clause-free, drop-not, drop-still-not, clause-split, phase-false, one-phase, both-true}
 
 -- one universal less
-peel-one : (q : ℕ) (p c : List ℕ) → goodPrefix (q ∷ p) ≡ true → bothPhases c ≡ false → odd q ≡ true → anyExist p c ≡ false → (m : Values → Bool) (ρ : Values) → game (q ∷ p) (λ τ. clauseTrue (peel (q ∷ p) c) τ && m τ) ρ ≡ game (q ∷ p) (λ τ. clauseTrue (peel p c) τ && m τ) ρ
+peel-one : (q : ℕ) (p c : List ℕ) → goodPrefix (q ∷ p) ≡ true → bothPhases c ≡ false → odd q ≡ true → anyExist p c ≡ false → (m : Values → Bool) (ρ : Values)
+    → game (q ∷ p) (λ τ. clauseTrue (peel (q ∷ p) c) τ && m τ) ρ ≡ game (q ∷ p) (λ τ. clauseTrue (peel p c) τ && m τ) ρ
 unfolding mentions anyOf isVar has
 peel-one q p c good no-both o none m ρ =
     ap (λ (d : List ℕ). game (q ∷ p) (λ τ. clauseTrue d τ && m τ) ρ) (peel-hit q p c o none)
@@ -39,7 +40,8 @@ peel-one q p c good no-both o none m ρ =
         (λ e. drop-still-not (var q) v (peel p c) (peel-out p c none v e)))
 
 -- the same for all of them
-peel-truth : (p c : List ℕ) → goodPrefix p ≡ true → bothPhases c ≡ false → (m : Values → Bool) (ρ : Values) → game p (λ τ. clauseTrue (peel p c) τ && m τ) ρ ≡ game p (λ τ. clauseTrue c τ && m τ) ρ
+peel-truth : (p c : List ℕ) → goodPrefix p ≡ true → bothPhases c ≡ false → (m : Values → Bool) (ρ : Values)
+    → game p (λ τ. clauseTrue (peel p c) τ && m τ) ρ ≡ game p (λ τ. clauseTrue c τ && m τ) ρ
 peel-truth [] c good no-both m ρ = unfold peel in refl
 peel-truth (q ∷ p) c good no-both m ρ =
     by-cases (odd q && not (anyExist p c))
@@ -49,7 +51,8 @@ peel-truth (q ∷ p) c good no-both m ρ =
     (λ b. peel-truth p c (good-tail q p good) no-both m (withValue ρ (var q) b))
 
 -- universal reduction keeps the truth, whatever stands beside the clause
-reduce-truth : (p c : List ℕ) → goodPrefix p ≡ true → bothPhases c ≡ false → (m : Values → Bool) (ρ : Values) → game p (λ τ. clauseTrue (reduce p c) τ && m τ) ρ ≡ game p (λ τ. clauseTrue c τ && m τ) ρ
+reduce-truth : (p c : List ℕ) → goodPrefix p ≡ true → bothPhases c ≡ false → (m : Values → Bool) (ρ : Values)
+    → game p (λ τ. clauseTrue (reduce p c) τ && m τ) ρ ≡ game p (λ τ. clauseTrue c τ && m τ) ρ
 reduce-truth p c good no-both m ρ = ap (λ (d : List ℕ). game p (λ τ. clauseTrue d τ && m τ) ρ) (reduce-peel p c good) ∙ peel-truth p c good no-both m ρ
 
 -- Building ---------------------------------------------------------------------------------------------------
@@ -64,7 +67,8 @@ one-more [] c ds τ = refl
 one-more (b ∷ cs) c ds τ = ap (λ (x : Bool). clauseTrue b τ && x) (one-more cs c ds τ) ∙ and-move (clauseTrue b τ) (clauseTrue c τ) (allTrue (cs ++ ds) τ)
 
 -- a clause that is there already
-again : (cs : List (List ℕ)) (c : List ℕ) (ds : List (List ℕ)) (τ : Values) → anyOf (same c) cs ≡ true → allTrue (cs ++ ds) τ ≡ (clauseTrue c τ && allTrue (cs ++ ds) τ)
+again : (cs : List (List ℕ)) (c : List ℕ) (ds : List (List ℕ)) (τ : Values) → anyOf (same c) cs ≡ true
+    → allTrue (cs ++ ds) τ ≡ (clauseTrue c τ && allTrue (cs ++ ds) τ)
 unfolding allTrue allOf anyOf
 again [] c ds τ h = absurd (false≢true h)
 again (b ∷ cs) c ds τ h =
@@ -76,7 +80,8 @@ again (b ∷ cs) c ds τ h =
     twice true e = refl
     twice false e = refl
 
-add-true : (cs : List (List ℕ)) (c : List ℕ) (ds : List (List ℕ)) (τ : Values) → allTrue (addTidied cs (kept c) ++ ds) τ ≡ (clauseTrue c τ && allTrue (cs ++ ds) τ)
+add-true : (cs : List (List ℕ)) (c : List ℕ) (ds : List (List ℕ)) (τ : Values)
+    → allTrue (addTidied cs (kept c) ++ ds) τ ≡ (clauseTrue c τ && allTrue (cs ++ ds) τ)
 unfolding addTidied
 add-true cs c ds τ =
     by-cases (anyOf (same c) cs)
@@ -84,7 +89,8 @@ add-true cs c ds τ =
     (λ h. ap (λ (b : Bool). allTrue (cond b cs (cs ++ (c ∷ [])) ++ ds) τ) h ∙ (ap (λ (k : List (List ℕ)). allTrue k τ) (append-assoc cs (c ∷ []) ds) ∙ one-more cs c ds τ))
 
 -- one clause more in the list that is built
-pub add-truth : (p : List ℕ) → goodPrefix p ≡ true → (cs : List (List ℕ)) (c : List ℕ) (ds : List (List ℕ)) (ρ : Values) → game p (allTrue (addTidied cs (tidy p c) ++ ds)) ρ ≡ game p (allTrue (cs ++ (c ∷ ds))) ρ
+pub add-truth : (p : List ℕ) → goodPrefix p ≡ true → (cs : List (List ℕ)) (c : List ℕ) (ds : List (List ℕ)) (ρ : Values)
+    → game p (allTrue (addTidied cs (tidy p c) ++ ds)) ρ ≡ game p (allTrue (cs ++ (c ∷ ds))) ρ
 unfolding tidy tidySorted addTidied
 add-truth p good cs c ds ρ =
     by-cases (bothPhases (ascending c))
@@ -97,7 +103,8 @@ add-truth p good cs c ds ρ =
     ∙ game-ext p (λ τ. clauseTrue (ascending c) τ && allTrue (cs ++ ds) τ) (allTrue (cs ++ (c ∷ ds)))
     (λ τ. ap (λ (b : Bool). b && allTrue (cs ++ ds) τ) (clause-ascending c τ) ∙ sym (one-more cs c ds τ)) ρ)))
 
-pub buildOn-truth : (p : List ℕ) → goodPrefix p ≡ true → (cs raws : List (List ℕ)) (ρ : Values) → game p (allTrue (buildOn p cs raws)) ρ ≡ game p (allTrue (cs ++ raws)) ρ
+pub buildOn-truth : (p : List ℕ) → goodPrefix p ≡ true → (cs raws : List (List ℕ)) (ρ : Values)
+    → game p (allTrue (buildOn p cs raws)) ρ ≡ game p (allTrue (cs ++ raws)) ρ
 unfolding buildOn
 buildOn-truth p good cs [] ρ = rw (append-nil cs)
 buildOn-truth p good cs (c ∷ raws) ρ = buildOn-truth p good (addTidied cs (tidy p c)) raws ρ ∙ add-truth p good cs c raws ρ
@@ -107,6 +114,7 @@ pub build-truth : (p : List ℕ) → goodPrefix p ≡ true → (raws : List (Lis
 unfolding truth build
 build-truth p good raws ρ = buildOn-truth p good [] raws ρ
 
-pub tidied-truth : (r : Formula) → goodPrefix (r .prefix) ≡ true → (ρ : Values) → truth ((tidied r) .prefix) ((tidied r) .clauses) ρ ≡ truth (r .prefix) (r .clauses) ρ
+pub tidied-truth : (r : Formula) → goodPrefix (r .prefix) ≡ true → (ρ : Values)
+    → truth ((tidied r) .prefix) ((tidied r) .clauses) ρ ≡ truth (r .prefix) (r .clauses) ρ
 unfolding tidied
 tidied-truth r good ρ = build-truth (r .prefix) good (r .clauses) ρ

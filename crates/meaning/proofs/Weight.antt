@@ -48,7 +48,8 @@ literals-append (c ∷ cs) ds = let h : literals (cs ++ ds) ≡ literals cs + li
 abbrev pub Less : List (List ℕ) → List (List ℕ) → Type 0
 Less cs ds = (length cs ≤ length ds) × (literals cs ≤ literals ds)
 
-add-less : (p : List ℕ) (cs : List (List ℕ)) (c : List ℕ) → (length (addTidied cs (tidy p c)) ≤ suc (length cs)) × (literals (addTidied cs (tidy p c)) ≤ literals cs + length c)
+add-less : (p : List ℕ) (cs : List (List ℕ)) (c : List ℕ)
+    → (length (addTidied cs (tidy p c)) ≤ suc (length cs)) × (literals (addTidied cs (tidy p c)) ≤ literals cs + length c)
 unfolding tidy tidySorted addTidied
 add-less p cs c = go (bothPhases (ascending c))
   where
@@ -59,11 +60,13 @@ add-less p cs c = go (bothPhases (ascending c))
     pick true = (omega arith, omega arith)
     pick false = (omega (arith, length-append cs (d ∷ [])), unfold literals in omega (arith, literals-append cs (d ∷ []), reduce-length p (ascending c), ascending-length c))
 
-    go : (s : Bool) → (length (addTidied cs (cond s dropped (kept d))) ≤ suc (length cs)) × (literals (addTidied cs (cond s dropped (kept d))) ≤ literals cs + length c)
+    go : (s : Bool)
+        → (length (addTidied cs (cond s dropped (kept d))) ≤ suc (length cs)) × (literals (addTidied cs (cond s dropped (kept d))) ≤ literals cs + length c)
     go true = (omega arith, omega arith)
     go false = pick (anyOf (same d) cs)
 
-buildOn-less : (p : List ℕ) (cs raws : List (List ℕ)) → (length (buildOn p cs raws) ≤ length cs + length raws) × (literals (buildOn p cs raws) ≤ literals cs + literals raws)
+buildOn-less : (p : List ℕ) (cs raws : List (List ℕ))
+    → (length (buildOn p cs raws) ≤ length cs + length raws) × (literals (buildOn p cs raws) ≤ literals cs + literals raws)
 unfolding buildOn literals
 buildOn-less p cs [] = (omega arith, omega arith)
 buildOn-less p cs (c ∷ raws) =

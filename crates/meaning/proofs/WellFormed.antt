@@ -1,4 +1,4 @@
--- (h) What is built of clauses over a good prefix is well formed. Assumes nothing.
+-- What is built of clauses over a good prefix is well formed. Assumes nothing.
 use mathlib.Core.Path.{_≡_, refl, sym, _∙_, ap, ap₂, subst}
 use Prim.Native.Nat.{ℕ, _+_, _*_, _/_, _%_, _<_, _≤_}
 use mathlib.Core.Bool.{Bool, true, false, _&&_, _||_, not, cond}

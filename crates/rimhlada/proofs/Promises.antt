@@ -70,7 +70,8 @@ pub answering : (φ : Formula) (e : ℕ) → Says φ (readEntry e) (stepOf φ e)
 answering φ e = step-says φ e
 
 -- TRUE and FALSE are the truth of the formula in the text.
-pub verdict : (text : List ℕ) (written φ : Formula) → asWritten text ≡ good written → read text ≡ good φ → (E limit bytes : ℕ) → ((run E limit bytes φ) .outcome ≡ ended isTRUE → isTrue written ≡ true) × ((run E limit bytes φ) .outcome ≡ ended isFALSE → isTrue written ≡ false)
+pub verdict : (text : List ℕ) (written φ : Formula) → asWritten text ≡ good written → read text ≡ good φ → (E limit bytes : ℕ)
+    → ((run E limit bytes φ) .outcome ≡ ended isTRUE → isTrue written ≡ true) × ((run E limit bytes φ) .outcome ≡ ended isFALSE → isTrue written ≡ false)
 unfolding run
 verdict text written φ a h E limit bytes =
     let r = run-right E (min limit (bytes / 4)) φ (read-well-formed text φ h) (read-fits text φ h) in
@@ -112,18 +113,21 @@ unfolding run
 running E limit bytes φ w f = run-right E (min limit (bytes / 4)) φ w f
 
 -- The bound, as document 01 writes it.
-pub bound : (E limit bytes : ℕ) (φ : Formula) → wellFormed φ ≡ true → fits φ ≡ true → length ((run E limit bytes φ) .log) ≤ weight φ + universals (φ .prefix) * (E + 1)
+pub bound : (E limit bytes : ℕ) (φ : Formula) → wellFormed φ ≡ true → fits φ ≡ true
+    → length ((run E limit bytes φ) .log) ≤ weight φ + universals (φ .prefix) * (E + 1)
 unfolding stepBound
 bound E limit bytes φ w f = (running E limit bytes φ w f) .few
 
 -- Replay: whatever the log, the formula that it leaves is well formed, within the limits and of the same truth, and is that of the
 -- entries applied, none of which is refused.
-pub replaying : (φ : Formula) → wellFormed φ ≡ true → fits φ ≡ true → (log : List ℕ) → Kept φ ((replay φ log) .formula) × (replay φ (take ((replay φ log) .applied) log) ≡ record { stop = allApplied; formula = (replay φ log) .formula; applied = (replay φ log) .applied })
+pub replaying : (φ : Formula) → wellFormed φ ≡ true → fits φ ≡ true → (log : List ℕ)
+    → Kept φ ((replay φ log) .formula) × (replay φ (take ((replay φ log) .applied) log) ≡ record { stop = allApplied; formula = (replay φ log) .formula; applied = (replay φ log) .applied })
 replaying φ w f log = (replay-kept φ w f log, replay-beginning φ log)
 
 -- A run that was stopped and goes on: with the same E, from the formula left, and limit and log room that add up to those of one
 -- uninterrupted run, the two give its outcome, its formula and its log in two parts.
-pub continuing : (E l₁ b₁ l₂ b₂ l b : ℕ) (φ : Formula) → min l₁ (b₁ / 4) + min l₂ (b₂ / 4) ≡ min l (b / 4) → (run E l₁ b₁ φ) .outcome ≡ stopped → run E l b φ ≡ joined (run E l₁ b₁ φ) (run E l₂ b₂ ((run E l₁ b₁ φ) .final))
+pub continuing : (E l₁ b₁ l₂ b₂ l b : ℕ) (φ : Formula) → min l₁ (b₁ / 4) + min l₂ (b₂ / 4) ≡ min l (b / 4) → (run E l₁ b₁ φ) .outcome ≡ stopped
+    → run E l b φ ≡ joined (run E l₁ b₁ φ) (run E l₂ b₂ ((run E l₁ b₁ φ) .final))
 continuing = run-continued
 
 -- Demand 1, so far as definitions go: each outcome is given by a function of what goes in. So two outcomes that both meet a
