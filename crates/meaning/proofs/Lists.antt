@@ -4,7 +4,7 @@ use Prim.Native.Nat.{ℕ}
 use mathlib.Core.Bool.{Bool, true, false, _&&_, _||_, not, cond, false≢true}
 use mathlib.Core.List.{List, [], _∷_, _++_, map}
 use lib.Dec.{eqb, ltb}
-use Rattle.meaning.specs.Lists.{allOf, anyOf, keepIf, has, same}
+use Rattle.meaning.specs.Lists.{allOf, anyOf, keepIf, has, same, firstOf}
 use Rattle.meaning.specs.Tidy.{insertNew, ascending}
 use Rattle.meaning.proofs.Basics.{clash, false-of, and-l, and-r, and-i, or-l, or-r, or-il, or-ir, or-elim, not-true, eqb-self, eqb-true}
 
@@ -263,3 +263,26 @@ keep-twice f g h e (x ∷ c) = go (g x) (f x) refl (h x) (e x) (keep-twice f g h
 
 pub keep-same : (f g : ℕ → Bool) (c : List ℕ) → ((x : ℕ) → f x ≡ g x) → keepIf f c ≡ keepIf g c
 keep-same f g c h = ap (λ (t : ℕ → Bool). keepIf t c) (fun-ext h)
+
+-- the first that passes passes, and is of the list
+pub first-passes : (f : ℕ → Bool) (c : List ℕ) → anyOf f c ≡ true → f (firstOf f c) ≡ true
+unfolding anyOf firstOf
+first-passes f [] h = absurd (false≢true h)
+first-passes f (l ∷ c) h = go (f l) refl h (first-passes f c)
+  where
+    go : (s : Bool) → f l ≡ s → (s || anyOf f c) ≡ true → (anyOf f c ≡ true → f (firstOf f c) ≡ true) → f (cond s l (firstOf f c)) ≡ true
+    go true e k ih = e
+    go false e k ih = ih k
+
+pub first-in : (f : ℕ → Bool) (c : List ℕ) → anyOf f c ≡ true → has (firstOf f c) c ≡ true
+unfolding anyOf firstOf has
+first-in f [] h = absurd (false≢true h)
+first-in f (l ∷ c) h = go (f l) h (first-in f c)
+  where
+    go : (s : Bool) → (s || anyOf f c) ≡ true → (anyOf f c ≡ true → has (firstOf f c) c ≡ true) → has (cond s l (firstOf f c)) (l ∷ c) ≡ true
+    go true k ih = or-il (eqb l l) (has l c) (eqb-self l)
+    go false k ih = or-ir (eqb (firstOf f c) l) (has (firstOf f c) c) (ih k)
+
+-- what a selection leaves out fails its test
+pub any-left : (t : ℕ → Bool) (c : List ℕ) → anyOf t (keepIf (λ x. not (t x)) c) ≡ false
+any-left t c = none-any t (keepIf (λ x. not (t x)) c) (all-kept (λ x. not (t x)) c)
