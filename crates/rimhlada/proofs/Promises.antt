@@ -20,8 +20,9 @@ use Rattle.rules.proofs.Answers.{Says, step-says}
 use Rattle.rules.proofs.Kept.{Kept, kept-true, step-kept}
 use Rattle.rules.proofs.Chosen.{takes-allowed, stuck-none, stuck-blocked, stuck-room}
 use Rattle.rules.proofs.First.{First, choose-first}
-use Rattle.rules.proofs.Replays.{replay-beginning}
-use Rattle.rules.proofs.Runs.{replay-kept, joined, run-continued, RunRight, run-right}
+use Rattle.rules.proofs.Replays.{replay-beginning, replay-kept}
+use Rattle.rules.proofs.Joined.{joined, run-continued}
+use Rattle.rules.proofs.RunRight.{RunRight, run-right}
 use Rattle.qdimacs.proofs.Sound.{of-read, read-well-formed, read-fits, read-truth}
 use Rattle.qdimacs.proofs.Sizes.{write-short}
 use Rattle.qdimacs.proofs.Trip.{round-trip}

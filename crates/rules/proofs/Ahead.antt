@@ -1,6 +1,4 @@
--- The order of candidates in document 01's words ("The run"), for the statement that the choice is the first: nothing above
--- is defined by it.
--- Assumes nothing.
+-- The order of candidates in words, for the statement that the choice is the first; nothing is defined by it. Assumes nothing.
 use Prim.Native.Nat.{ℕ}
 use mathlib.Core.Bool.{Bool, _&&_, _||_}
 use lib.Dec.{eqb, ltb}

@@ -1,14 +1,13 @@
 -- What a step by its entry answers, each answer exactly when. Assumes nothing.
 use mathlib.Core.Path.{_≡_, refl}
 use Prim.Native.Nat.{ℕ}
-use mathlib.Core.Bool.{Bool, true, false, _&&_, not, cond, false≢true}
+use mathlib.Core.Bool.{Bool, true, false, cond, false≢true}
 use Rattle.meaning.specs.Formula.{Formula}
 use Rattle.meaning.specs.WellFormed.{fits}
 use Rattle.rules.specs.Entry.{Call, bad, call, readEntry}
 use Rattle.rules.specs.Step.{permitted, resultOf, entryBad, notPermitted, noRoom, StepAnswer, refused, stepped, inRoom, stepCall, stepOf}
-use Rattle.rules.specs.Choice.{costly, wanted, blockedCall, onCall, blocked}
-use Rattle.meaning.proofs.Basics.{and-l, and-r, not-true}
-use Rattle.rules.proofs.Kept.{wanted-permitted}
+use Rattle.rules.specs.Choice.{blockedCall, onCall, blocked}
+use Rattle.rules.proofs.Permitted.{wanted-permitted, blocked-wanted, blocked-full}
 
 -- what an answer says of the call
 abbrev pub Says : Formula → Call → StepAnswer → Type 0
@@ -26,7 +25,8 @@ unfolding stepCall inRoom
 says φ bad = tt
 says φ (call k a b) = go (permitted φ k a b) (fits (resultOf φ k a b)) refl refl
   where
-    go : (s t : Bool) → permitted φ k a b ≡ s → fits (resultOf φ k a b) ≡ t → Says φ (call k a b) (cond s (cond t (stepped (resultOf φ k a b)) (refused noRoom)) (refused notPermitted))
+    go : (s t : Bool) → permitted φ k a b ≡ s → fits (resultOf φ k a b) ≡ t
+        → Says φ (call k a b) (cond s (cond t (stepped (resultOf φ k a b)) (refused noRoom)) (refused notPermitted))
     go false t h i = h
     go true false h i = (h, i)
     go true true h i = (h, i, refl)
@@ -38,18 +38,9 @@ step-says φ e = says φ (readEntry e)
 
 -- a step that fails only for room answers NO ROOM
 pub blocked-says : (E : ℕ) (φ : Formula) (e : ℕ) → blocked E φ e ≡ true → stepOf φ e ≡ refused noRoom
-unfolding blocked stepOf
+unfolding blocked stepOf stepCall inRoom onCall
 blocked-says E φ e h = go (readEntry e) h
   where
     go : (c : Call) → onCall (blockedCall E φ) c ≡ true → stepCall φ c ≡ refused noRoom
-    go bad i = unfold onCall in absurd (false≢true i)
-    go (call k a b) i = unfold stepCall inRoom in (rw (p, f))
-      where
-        is : blockedCall E φ k a b ≡ true
-        is = unfold onCall in i
-
-        p : permitted φ k a b ≡ true
-        p = wanted-permitted E φ k a b (unfold blockedCall in and-l (wanted E φ k a b) (costly k && not (fits (resultOf φ k a b))) is)
-
-        f : fits (resultOf φ k a b) ≡ false
-        f = not-true (fits (resultOf φ k a b)) (unfold blockedCall in and-r (costly k) (not (fits (resultOf φ k a b))) (and-r (wanted E φ k a b) (costly k && not (fits (resultOf φ k a b))) is))
+    go bad i = absurd (false≢true i)
+    go (call k a b) i = rw (wanted-permitted E φ k a b (blocked-wanted E φ k a b i), blocked-full E φ k a b i)

@@ -1,10 +1,10 @@
 -- What becomes of clauses when a literal becomes true (unit, pure, expand, resolve). Assumes nothing.
-use mathlib.Core.Path.{_≡_, refl, sym, _∙_, ap, subst}
+use mathlib.Core.Path.{_≡_, refl, sym, _∙_, ap}
 use Prim.Native.Nat.{ℕ}
 use mathlib.Core.Bool.{Bool, true, false, _&&_, _||_, not, cond}
 use mathlib.Core.List.{List, [], _∷_}
 use lib.Dec.{eqb}
-use Rattle.meaning.specs.Lists.{allOf, anyOf, keepIf, has, without}
+use Rattle.meaning.specs.Lists.{allOf, anyOf, has, without}
 use Rattle.meaning.specs.Formula.{var, odd, opposite}
 use Rattle.meaning.specs.Game.{Values, withValue, litTrue, clauseTrue, allTrue}
 use Rattle.rules.specs.Simplify.{withoutLit, assign, occurs}
@@ -14,7 +14,7 @@ use Rattle.meaning.proofs.Lists.{any-keep, all-keep, any-has, any-none, any-agr
 
 -- the value that makes l true, and the other
 pub lit-yes : (τ : Values) (l : ℕ) → litTrue (withValue τ (var l) (not (odd l))) l ≡ true
-lit-yes τ l = lit-with τ l (not (odd l)) ∙ go (odd l)
+lit-yes τ l = lit-with τ l _ ∙ go (odd l)
   where
     go : (s : Bool) → cond s (not (not s)) (not s) ≡ true
     go true = refl
@@ -42,19 +42,16 @@ lit-rest : (τ : Values) (l k : ℕ) → eqb l k ≡ false → litTrue (withValu
 lit-rest τ l k d =
     by-cases (eqb (var k) (var l))
     (λ e. let o : k ≡ opposite l = other-lit l k (eqb-true (var k) (var l) e) d in
-    (ap (litTrue (withValue τ (var l) (not (odd l)))) o ∙ (lit-opp (withValue τ (var l) (not (odd l))) l ∙ ap not (lit-yes τ l)))
-    ∙ sym (ap (λ (b : Bool). not b && litTrue τ k) (eqb-eq (sym o))))
-    (λ e. lit-with-other τ (var l) k (not (odd l)) e
-    ∙ sym (ap (λ (b : Bool). not b && litTrue τ k) (eqb-ne (opposite l) k (λ o. eqb-false (var k) (var l) e (sym (ap var o) ∙ var-opp l)))))
+    rw (eqb-eq (sym o)) (ap (litTrue (withValue τ (var l) (not (odd l)))) o ∙ (lit-opp (withValue τ (var l) (not (odd l))) l ∙ ap not (lit-yes τ l))))
+    (λ e. lit-with-other τ (var l) k _ e ∙ sym (rw (eqb-ne _ k (λ o. eqb-false (var k) (var l) e (sym (ap var o) ∙ var-opp l)))))
 
-clause-assign : (l : ℕ) (c : List ℕ) (τ : Values) → clauseTrue c (withValue τ (var l) (not (odd l))) ≡ (not (not (has l c)) || clauseTrue (without (opposite l) c) τ)
+clause-assign : (l : ℕ) (c : List ℕ) (τ : Values)
+    → clauseTrue c (withValue τ (var l) (not (odd l))) ≡ (not (not (has l c)) || clauseTrue (without (opposite l) c) τ)
 unfolding clauseTrue without
 clause-assign l c τ =
     by-cases (has l c)
-    (λ h. any-has (litTrue (withValue τ (var l) (not (odd l)))) c l h (lit-yes τ l) ∙ sym (ap (λ (b : Bool). not (not b) || anyOf (litTrue τ) (keepIf (λ k. not (eqb (opposite l) k)) c)) h))
-    (λ h. (any-agree (λ k. not (eqb l k)) (litTrue (withValue τ (var l) (not (odd l)))) (λ k. not (eqb (opposite l) k) && litTrue τ k) c (missing h) (λ k d. lit-rest τ l k (not-true (eqb l k) d))
-    ∙ sym (any-keep (litTrue τ) (λ k. not (eqb (opposite l) k)) c))
-    ∙ sym (ap (λ (b : Bool). not (not b) || anyOf (litTrue τ) (keepIf (λ k. not (eqb (opposite l) k)) c)) h))
+    (λ h. any-has _ c l h (lit-yes τ l) ∙ sym (rw h))
+    (λ h. (any-agree _ _ _ c (missing h) (λ k d. lit-rest τ l k (not-true _ d)) ∙ sym (any-keep _ (λ k. not (eqb (opposite l) k)) c)) ∙ sym (rw h))
   where
     missing : has l c ≡ false → allOf (λ k. not (eqb l k)) c ≡ true
     missing h = any-none (λ k. eqb l k) c (unfold has in h)
@@ -62,31 +59,27 @@ clause-assign l c τ =
 -- to make a literal true is to set its variable
 pub assign-true : (l : ℕ) (cs : List (List ℕ)) (τ : Values) → allTrue cs (withValue τ (var l) (not (odd l))) ≡ allTrue (assign l cs) τ
 unfolding allTrue assign withoutLit
-assign-true l cs τ =
-    step cs ∙ sym (all-map (λ c. clauseTrue c τ) (without (opposite l)) (keepIf (λ c. not (has l c)) cs) ∙ all-keep (λ c. clauseTrue (without (opposite l) c) τ) (λ c. not (has l c)) cs)
+assign-true l cs τ = step cs ∙ sym (all-map _ _ _ ∙ all-keep _ _ cs)
   where
-    step : (cs : List (List ℕ)) → allOf (λ c. clauseTrue c (withValue τ (var l) (not (odd l)))) cs ≡ allOf (λ c. not (not (has l c)) || clauseTrue (without (opposite l) c) τ) cs
+    step : (cs : List (List ℕ))
+        → allOf (λ c. clauseTrue c (withValue τ (var l) (not (odd l)))) cs ≡ allOf (λ c. not (not (has l c)) || clauseTrue (without (opposite l) c) τ) cs
     step cs = ap (λ (f : List ℕ → Bool). allOf f cs) (λ i c. clause-assign l c τ i)
 
 -- where the opposite of l does not occur, l true is at least as good as l false
-clause-better : (l : ℕ) (c : List ℕ) → has (opposite l) c ≡ false → (τ : Values) → clauseTrue c (withValue τ (var l) (odd l)) ≡ true → clauseTrue c (withValue τ (var l) (not (odd l))) ≡ true
+clause-better : (l : ℕ) (c : List ℕ) → has (opposite l) c ≡ false → (τ : Values) → clauseTrue c (withValue τ (var l) (odd l)) ≡ true
+    → clauseTrue c (withValue τ (var l) (not (odd l))) ≡ true
 unfolding clauseTrue anyOf has
 clause-better l [] never τ h = h
 clause-better l (k ∷ c) never τ h =
-    or-elim (litTrue (withValue τ (var l) (odd l)) k) (anyOf (litTrue (withValue τ (var l) (odd l))) c) h
-    (λ e. or-il (litTrue (withValue τ (var l) (not (odd l))) k) (anyOf (litTrue (withValue τ (var l) (not (odd l)))) c)
-    (by-cases (eqb l k)
-    (λ d. subst (λ (i : ℕ). litTrue (withValue τ (var l) (not (odd l))) i ≡ true) (eqb-true l k d) (lit-yes τ l))
-    (λ d. by-cases (eqb (var k) (var l))
-    (λ v. absurd (eqb-false (opposite l) k (or-l (eqb (opposite l) k) (anyOf (λ y. eqb (opposite l) y) c) never) (sym (other-lit l k (eqb-true (var k) (var l) v) d))))
-    (λ v. lit-with-other τ (var l) k (not (odd l)) v ∙ (sym (lit-with-other τ (var l) k (odd l) v) ∙ e)))))
-    (λ e. or-ir (litTrue (withValue τ (var l) (not (odd l))) k) (anyOf (litTrue (withValue τ (var l) (not (odd l)))) c)
-    (clause-better l c (or-r (eqb (opposite l) k) (anyOf (λ y. eqb (opposite l) y) c) never) τ e))
+    or-elim _ _ h
+    (λ e. or-il _ _ (by-cases (eqb l k) (λ d. ap (litTrue (withValue τ (var l) (not (odd l)))) (sym (eqb-true l k d)) ∙ lit-yes τ l)
+    (λ d. by-cases (eqb (var k) (var l)) (λ v. absurd (eqb-false _ k (or-l _ _ never) (sym (other-lit l k (eqb-true (var k) (var l) v) d))))
+    (λ v. lit-with-other τ (var l) k _ v ∙ (sym (lit-with-other τ (var l) k (odd l) v) ∙ e)))))
+    (λ e. or-ir (litTrue (withValue τ (var l) (not (odd l))) k) _ (clause-better l c (or-r (eqb (opposite l) k) _ never) τ e))
 
-pub better : (l : ℕ) (cs : List (List ℕ)) → occurs (opposite l) cs ≡ false → (τ : Values) → allTrue cs (withValue τ (var l) (odd l)) ≡ true → allTrue cs (withValue τ (var l) (not (odd l))) ≡ true
+pub better : (l : ℕ) (cs : List (List ℕ)) → occurs (opposite l) cs ≡ false → (τ : Values) → allTrue cs (withValue τ (var l) (odd l)) ≡ true
+    → allTrue cs (withValue τ (var l) (not (odd l))) ≡ true
 unfolding allTrue occurs anyOf allOf
 better l [] never τ h = h
 better l (c ∷ cs) never τ h =
-    and-i (clauseTrue c (withValue τ (var l) (not (odd l)))) (allOf (λ c. clauseTrue c (withValue τ (var l) (not (odd l)))) cs)
-    (clause-better l c (or-l (has (opposite l) c) (anyOf (has (opposite l)) cs) never) τ (and-l (clauseTrue c (withValue τ (var l) (odd l))) (allOf (λ c. clauseTrue c (withValue τ (var l) (odd l))) cs) h))
-    (better l cs (or-r (has (opposite l) c) (anyOf (has (opposite l)) cs) never) τ (and-r (clauseTrue c (withValue τ (var l) (odd l))) (allOf (λ c. clauseTrue c (withValue τ (var l) (odd l))) cs) h))
+    and-i _ _ (clause-better l c (or-l _ _ never) τ (search and-l)) (better l cs (or-r (has (opposite l) c) _ never) τ (search and-r))

@@ -14,11 +14,12 @@ use Rattle.rules.specs.Step.{permitted, rawOf, resultOf}
 use Rattle.rules.specs.Choice.{costly, light, wanted}
 use Rattle.rules.specs.Run.{stepBound}
 use Rattle.meaning.proofs.Basics.{and-l, and-r}
-use Rattle.rules.proofs.Falls.{unit-falls, pure-falls, subsume-falls, strengthen-falls, equality-falls, tidied-falls, universals-drop, universals-expand}
-use Rattle.rules.proofs.Room.{raw-smaller}
+use Rattle.rules.proofs.Falls.{unit-falls, pure-falls, subsume-falls, strengthen-falls, equality-falls, tidied-falls, universals-expand}
+use Rattle.rules.proofs.Room.{raw-smaller, universals-drop}
 
 -- The weight and the bound -----------------------------------------------------------------------------------
-pub cheap-falls : (φ : Formula) → wellFormed φ ≡ true → (k : Kind) → costly k ≡ false → (a b : ℕ) → permitted φ k a b ≡ true → weight (resultOf φ k a b) < weight φ
+pub cheap-falls : (φ : Formula) → wellFormed φ ≡ true → (k : Kind) → costly k ≡ false → (a b : ℕ) → permitted φ k a b ≡ true
+    → weight (resultOf φ k a b) < weight φ
 unfolding resultOf rawOf permitted costly
 cheap-falls φ w unit e a b h = tidied-falls φ (rawOf φ unit a b) (unit-falls φ w a h)
 cheap-falls φ w pure e a b h = tidied-falls φ (rawOf φ pure a b) (pure-falls φ w a h)
@@ -28,34 +29,28 @@ cheap-falls φ w equality e a b h = tidied-falls φ (rawOf φ equality a b) (equ
 cheap-falls φ w resolve e a b h = absurd (true≢false e)
 cheap-falls φ w expand e a b h = absurd (true≢false e)
 
--- weight falls and universals do not rise
-falls-more : (E w w′ u u′ : ℕ) → w < w′ → u ≤ u′ → w + u * (E + 1) < w′ + u′ * (E + 1)
-falls-more E w w′ u u′ x y = omega (arith, mul-le-mul-right (E + 1) y)
+-- the weight falls and the universals do not rise
+falls-more : (E : ℕ) (φ ψ : Formula) → weight ψ < weight φ → universals (ψ .prefix) ≤ universals (φ .prefix) → stepBound E ψ < stepBound E φ
+unfolding stepBound
+falls-more E φ ψ x y = omega (arith, mul-le-mul-right (E + 1) y)
 
--- weight rises by at most E and a universal goes
-falls-one : (E w w′ u u′ : ℕ) → w ≤ w′ + E → suc u ≡ u′ → w + u * (E + 1) < w′ + u′ * (E + 1)
-falls-one E w w′ u u′ x y = let z : suc u * (E + 1) ≡ u * (E + 1) + (E + 1) = suc-mul u (E + 1) in let q : suc u * (E + 1) ≡ u′ * (E + 1) = ap (λ (n : ℕ). n * (E + 1)) y in omega arith
+-- the weight rises by at most E and a universal goes
+falls-one : (E : ℕ) (φ ψ : Formula) → weight ψ ≤ weight φ + E → suc (universals (ψ .prefix)) ≡ universals (φ .prefix) → stepBound E ψ < stepBound E φ
+unfolding stepBound
+falls-one E φ ψ x y = omega (arith, suc-mul (universals (ψ .prefix)) (E + 1), ap (λ (n : ℕ). n * (E + 1)) y)
 
 pub bound-falls : (E : ℕ) (φ : Formula) → wellFormed φ ≡ true → (k : Kind) (a b : ℕ) → wanted E φ k a b ≡ true → stepBound E (resultOf φ k a b) < stepBound E φ
-unfolding stepBound
-bound-falls E φ w k a b h = go k (unfold wanted in and-l (permitted φ k a b) (light E k (weight φ) (weight (resultOf φ k a b))) h) (unfold wanted in and-r (permitted φ k a b) (light E k (weight φ) (weight (resultOf φ k a b))) h)
+unfolding wanted costly light
+bound-falls E φ w k a b h = go k (search and-l) (and-r (permitted φ k a b) _ h)
   where
-    cheap : (k : Kind) → costly k ≡ false → permitted φ k a b ≡ true → weight (resultOf φ k a b) + universals ((resultOf φ k a b) .prefix) * (E + 1) < weight φ + universals (φ .prefix) * (E + 1)
-    cheap k e p =
-        falls-more E (weight (resultOf φ k a b)) (weight φ) (universals ((resultOf φ k a b) .prefix)) (universals (φ .prefix)) (cheap-falls φ w k e a b p)
-        (unfold resultOf tidied in (raw-smaller φ k e a b) .universals)
+    cheap : (k : Kind) → costly k ≡ false → permitted φ k a b ≡ true → stepBound E (resultOf φ k a b) < stepBound E φ
+    cheap k e p = falls-more E φ (resultOf φ k a b) (cheap-falls φ w k e a b p) (unfold resultOf tidied in (raw-smaller φ k e a b) .universals)
 
-    go : (k : Kind) → permitted φ k a b ≡ true → light E k (weight φ) (weight (resultOf φ k a b)) ≡ true → weight (resultOf φ k a b) + universals ((resultOf φ k a b) .prefix) * (E + 1) < weight φ + universals (φ .prefix) * (E + 1)
-    go unit p l = cheap unit (unfold costly in refl) p
-    go pure p l = cheap pure (unfold costly in refl) p
-    go subsume p l = cheap subsume (unfold costly in refl) p
-    go strengthen p l = cheap strengthen (unfold costly in refl) p
-    go equality p l = cheap equality (unfold costly in refl) p
-    go resolve p l =
-        falls-more E (weight (resultOf φ resolve a b)) (weight φ) (universals ((resultOf φ resolve a b) .prefix)) (universals (φ .prefix))
-        (ltb-true (weight (resultOf φ resolve a b)) (weight φ) (unfold light in l))
-        (unfold resultOf tidied rawOf resolveRaw in universals-drop a (φ .prefix))
-    go expand p l =
-        falls-one E (weight (resultOf φ expand a b)) (weight φ) (universals ((resultOf φ expand a b) .prefix)) (universals (φ .prefix))
-        (leb-true (weight (resultOf φ expand a b)) (weight φ + E) (unfold light in l))
-        (unfold resultOf tidied rawOf in universals-expand φ w a (unfold permitted in p))
+    go : (k : Kind) → permitted φ k a b ≡ true → light E k (weight φ) (weight (resultOf φ k a b)) ≡ true → stepBound E (resultOf φ k a b) < stepBound E φ
+    go unit p l = cheap unit refl p
+    go pure p l = cheap pure refl p
+    go subsume p l = cheap subsume refl p
+    go strengthen p l = cheap strengthen refl p
+    go equality p l = cheap equality refl p
+    go resolve p l = falls-more E φ (resultOf φ resolve a b) (ltb-true _ _ l) (unfold resultOf tidied rawOf resolveRaw in universals-drop a (φ .prefix))
+    go expand p l = falls-one E φ (resultOf φ expand a b) (leb-true _ _ l) (unfold resultOf tidied rawOf in universals-expand φ w a (unfold permitted in p))

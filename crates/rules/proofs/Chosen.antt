@@ -1,35 +1,23 @@
--- What `choose` takes counts and is the first in the order of document 01; where it is stuck no entry counts.
--- Assumes nothing.
+-- What `choose` takes counts and comes first; where it is stuck no entry counts. Assumes nothing.
 use mathlib.Core.Path.{_≡_, refl, sym, _∙_, ap}
 use Prim.Native.Nat.{ℕ}
 use native.Mathlib.Omega.{arith}
-use mathlib.Core.Bool.{Bool, true, false, _&&_, _||_, not, false≢true}
+use mathlib.Core.Bool.{Bool, true, false, false≢true}
 use mathlib.Core.List.{List, [], _∷_, map}
 use lib.Dec.{eqb}
 use Rattle.meaning.specs.Lists.{anyOf, has}
 use Rattle.meaning.specs.Formula.{Formula}
 use Rattle.meaning.specs.WellFormed.{fits}
 use Rattle.rules.specs.Entry.{Kind, unit, pure, subsume, strengthen, equality, resolve, expand, code, entry, Call, bad, call, readEntry}
-use Rattle.rules.specs.Step.{resultOf}
-use Rattle.rules.specs.Choice.{costly, wanted, allowedCall, blockedCall, onCall, allowed, blocked, Found, none, found, firsts, candidate, anyBlocked, takeStep, stuck, takeFound, chooseOf, kinds, choose, seconds}
-use Rattle.meaning.proofs.Basics.{clash, and-l, and-r, or-il, or-ir, or-elim, not-true, eqb-true, eqb-eq}
-use Rattle.meaning.proofs.Lists.{any-has, any-witness, any-some}
+use Rattle.rules.specs.Choice.{allowedCall, blockedCall, onCall, allowed, blocked, Found, none, found, firsts, candidate, anyBlocked, takeStep, stuck, takeFound, chooseOf, kinds, choose, seconds}
+use Rattle.meaning.proofs.Basics.{clash, and-l, and-r, or-il, or-ir, or-elim, not-true, eqb-true, eqb-eq, eqb-self}
+use Rattle.meaning.proofs.Lists.{any-has, any-witness, any-some, any-map}
 use Rattle.rules.proofs.Before.{before, sooner, precedes}
 use Rattle.rules.proofs.Entries.{Fields, read-entry, entry-read, code-inj}
 use Rattle.rules.proofs.Choose.{Used, Listed, listed, fields-of, Best, find-found, find-none}
-use Rattle.rules.proofs.Kept.{wanted-permitted}
+use Rattle.rules.proofs.Permitted.{wanted-permitted, blocked-wanted}
 
 -- The kinds in order -----------------------------------------------------------------------------------------
-all-kinds : (k : Kind) → has (code k) (map code kinds) ≡ true
-unfolding has anyOf code
-all-kinds unit = refl
-all-kinds pure = refl
-all-kinds subsume = refl
-all-kinds strengthen = refl
-all-kinds equality = refl
-all-kinds resolve = refl
-all-kinds expand = refl
-
 kinds-any : (f : Kind → Bool) (k : Kind) → f k ≡ true → anyOf f kinds ≡ true
 unfolding anyOf
 kinds-any f unit h = search or-il
@@ -40,50 +28,49 @@ kinds-any f equality h = search (or-il, or-ir) depth 9
 kinds-any f resolve h = search (or-il, or-ir) depth 9
 kinds-any f expand h = search (or-il, or-ir) depth 9
 
+all-kinds : (k : Kind) → has (code k) (map code kinds) ≡ true
+unfolding has
+all-kinds k = any-map _ code kinds ∙ kinds-any _ k (eqb-self (code k))
+
 module _ (E : ℕ) (φ : Formula) where
   record Taken (ks : List Kind) (k : Kind) (a b : ℕ) : Type 0 where
     at : candidate E φ k ≡ found a b
     sooner-none : (j : Kind) → before (map code ks) (code j) (code k) ≡ true → candidate E φ j ≡ none
 
   taken-of : (ks : List Kind) (k : Kind) (a b : ℕ) → chooseOf E φ ks ≡ takeStep k a b → Taken ks k a b
-  unfolding chooseOf before
-  taken-of [] k a b e = absurd (never e)
-    where
-      never : stuck (anyBlocked E φ) ≡ takeStep k a b → ⊥
-      never e = let z : _≡_ {A = ℕ} 0 1 = cc in omega arith
+  unfolding chooseOf before takeFound
+  taken-of [] k a b e = absurd (let z : _≡_ {A = ℕ} 0 1 = cc in omega arith)
   taken-of (x ∷ ks) k a b e = go (candidate E φ x) refl e (taken-of ks k a b)
     where
-      go : (f : Found) → candidate E φ x ≡ f → takeFound x f (chooseOf E φ ks) ≡ takeStep k a b → (chooseOf E φ ks ≡ takeStep k a b → Taken ks k a b) → Taken (x ∷ ks) k a b
+      go : (f : Found) → candidate E φ x ≡ f → takeFound x f (chooseOf E φ ks) ≡ takeStep k a b → (chooseOf E φ ks ≡ takeStep k a b → Taken ks k a b)
+          → Taken (x ∷ ks) k a b
       go none h i ih =
-          let t : Taken ks k a b = ih (unfold takeFound in i) in
+          let t : Taken ks k a b = ih i in
           record {
             at = t .at;
-            sooner-none = λ j l. or-elim (eqb (code x) (code j)) (before (map code ks) (code j) (code k)) (and-r (not (eqb (code x) (code k))) (eqb (code x) (code j) || before (map code ks) (code j) (code k)) l) (λ q. ap (candidate E φ) (sym (code-inj x j (eqb-true (code x) (code j) q))) ∙ h) (t .sooner-none j);
+            sooner-none = λ j l. or-elim _ _ (search and-r) (λ q. ap (candidate E φ) (sym (code-inj x j (eqb-true (code x) (code j) q))) ∙ h) (t .sooner-none j);
           }
-      go (found c d) h i ih = told (unfold takeFound in i)
-        where
-          told : takeStep x c d ≡ takeStep k a b → Taken (x ∷ ks) k a b
-          told q =
-              let y : x ≡ k = cc in
-              let v : found c d ≡ found a b = cc in
-              record {
-                at = ap (candidate E φ) (sym y) ∙ (h ∙ v);
-                sooner-none = λ j l. clash (eqb-eq (ap code y)) (not-true (eqb (code x) (code k)) (and-l (not (eqb (code x) (code k))) (eqb (code x) (code j) || before (map code ks) (code j) (code k)) l));
-              }
+      go (found c d) h i ih =
+          let y : x ≡ k = cc in
+          let v : found c d ≡ found a b = cc in
+          record { at = ap (candidate E φ) (sym y) ∙ (h ∙ v); sooner-none = λ j l. clash (eqb-eq (ap code y)) (search (and-l, not-true)) }
 
-  stuck-of : (ks : List Kind) (r : Bool) → chooseOf E φ ks ≡ stuck r → (anyBlocked E φ ≡ r) × ((j : Kind) → has (code j) (map code ks) ≡ true → candidate E φ j ≡ none)
-  unfolding chooseOf has anyOf
-  stuck-of [] r e = (cc, λ j h. absurd (false≢true h))
+  record Stuck (ks : List Kind) (r : Bool) : Type 0 where
+    for-room : anyBlocked E φ ≡ r
+    none-of : (j : Kind) → has (code j) (map code ks) ≡ true → candidate E φ j ≡ none
+
+  stuck-of : (ks : List Kind) (r : Bool) → chooseOf E φ ks ≡ stuck r → Stuck ks r
+  unfolding chooseOf has anyOf takeFound
+  stuck-of [] r e = record { for-room = cc; none-of = λ j h. absurd (false≢true h) }
   stuck-of (x ∷ ks) r e = go (candidate E φ x) refl e (stuck-of ks r)
     where
-      go : (f : Found) → candidate E φ x ≡ f → takeFound x f (chooseOf E φ ks) ≡ stuck r → (chooseOf E φ ks ≡ stuck r → (anyBlocked E φ ≡ r) × ((j : Kind) → has (code j) (map code ks) ≡ true → candidate E φ j ≡ none)) → (anyBlocked E φ ≡ r) × ((j : Kind) → has (code j) (map code (x ∷ ks)) ≡ true → candidate E φ j ≡ none)
+      go : (f : Found) → candidate E φ x ≡ f → takeFound x f (chooseOf E φ ks) ≡ stuck r → (chooseOf E φ ks ≡ stuck r → Stuck ks r) → Stuck (x ∷ ks) r
       go none h i ih =
-          let t : (anyBlocked E φ ≡ r) × ((j : Kind) → has (code j) (map code ks) ≡ true → candidate E φ j ≡ none) = ih (unfold takeFound in i) in
-          (t .0, λ j l. or-elim (eqb (code j) (code x)) (anyOf (λ n. eqb (code j) n) (map code ks)) l (λ q. ap (candidate E φ) (code-inj j x (eqb-true (code j) (code x) q)) ∙ h) (t .1 j))
-      go (found c d) h i ih = absurd (never (unfold takeFound in i))
-        where
-          never : takeStep x c d ≡ stuck r → ⊥
-          never q = let z : _≡_ {A = ℕ} 0 1 = cc in omega arith
+          record {
+            for-room = (ih i) .for-room;
+            none-of = λ j l. or-elim (eqb (code j) (code x)) _ l (λ q. ap (candidate E φ) (code-inj j x (eqb-true (code j) (code x) q)) ∙ h) ((ih i) .none-of j);
+          }
+      go (found c d) h i ih = absurd (let z : _≡_ {A = ℕ} 0 1 = cc in omega arith)
 
   -- What is taken ---------------------------------------------------------------------------------------------
   -- the step (k, a, b) counts, has an entry, and no entry that counts is of a kind that is tried sooner, or of its kind and before it
@@ -128,18 +115,13 @@ module _ (E : ℕ) (φ : Formula) where
 
   pub stuck-none : (r : Bool) → choose E φ ≡ stuck r → (e : ℕ) → allowed E φ e ≡ false
   unfolding choose
-  stuck-none r h e = no-call (λ j. (stuck-of kinds r h) .1 j (all-kinds j)) e (readEntry e) refl
-
-  blocked-listed : (k : Kind) (a b : ℕ) → Used k b → blockedCall E φ k a b ≡ true → Listed φ k a b
-  unfolding blockedCall
-  blocked-listed k a b u h = listed φ k a b u (wanted-permitted E φ k a b (and-l (wanted E φ k a b) (costly k && not (fits (resultOf φ k a b))) h))
+  stuck-none r h e = no-call (λ j. (stuck-of kinds r h) .none-of j (all-kinds j)) e (readEntry e) refl
 
   blocked-any : (k : Kind) (a b : ℕ) → Used k b → blockedCall E φ k a b ≡ true → anyBlocked E φ ≡ true
   unfolding anyBlocked
   blocked-any k a b u h =
-      let l : Listed φ k a b = blocked-listed k a b u h in
-      kinds-any (λ k. anyOf (λ a. anyOf (blockedCall E φ k a) (seconds φ k)) (firsts φ k)) k
-      (any-has (λ a. anyOf (blockedCall E φ k a) (seconds φ k)) (firsts φ k) a (l .0) (any-has (blockedCall E φ k a) (seconds φ k) b (l .1) h))
+      let l : Listed φ k a b = listed φ k a b u (wanted-permitted E φ k a b (blocked-wanted E φ k a b h)) in
+      kinds-any _ k (any-has _ _ a (l .0) (any-has _ _ b (l .1) h))
 
   blocked-call : (e : ℕ) (c : Call) → readEntry e ≡ c → onCall (blockedCall E φ) c ≡ true → anyBlocked E φ ≡ true
   unfolding onCall
@@ -149,14 +131,14 @@ module _ (E : ℕ) (φ : Formula) where
   -- stuck for room exactly if some entry fails only for room
   pub stuck-blocked : (r : Bool) → choose E φ ≡ stuck r → (e : ℕ) → blocked E φ e ≡ true → r ≡ true
   unfolding choose blocked
-  stuck-blocked r h e b = sym ((stuck-of kinds r h) .0) ∙ blocked-call e (readEntry e) refl b
+  stuck-blocked r h e b = sym ((stuck-of kinds r h) .for-room) ∙ blocked-call e (readEntry e) refl b
 
   pub stuck-room : fits φ ≡ true → choose E φ ≡ stuck true → (e : ℕ) × (blocked E φ e ≡ true)
   unfolding choose anyBlocked blocked onCall
   stuck-room f h =
       let x : (k : Kind) × (anyOf (λ a. anyOf (blockedCall E φ k a) (seconds φ k)) (firsts φ k) ≡ true) =
-      any-some (λ k. anyOf (λ a. anyOf (blockedCall E φ k a) (seconds φ k)) (firsts φ k)) kinds ((stuck-of kinds true h) .0) in
+      any-some _ kinds ((stuck-of kinds true h) .for-room) in
       let y : (a : ℕ) × (has a (firsts φ (x .0)) ≡ true) × (anyOf (blockedCall E φ (x .0) a) (seconds φ (x .0)) ≡ true) =
-      any-witness (λ a. anyOf (blockedCall E φ (x .0) a) (seconds φ (x .0))) (firsts φ (x .0)) (x .1) in
-      let z : (b : ℕ) × (has b (seconds φ (x .0)) ≡ true) × (blockedCall E φ (x .0) (y .0) b ≡ true) = any-witness (blockedCall E φ (x .0) (y .0)) (seconds φ (x .0)) (y .2) in
+      any-witness _ _ (x .1) in
+      let z : (b : ℕ) × (has b (seconds φ (x .0)) ≡ true) × (blockedCall E φ (x .0) (y .0) b ≡ true) = any-witness _ _ (y .2) in
       (entry (x .0) (y .0) (z .0), rw (read-entry (x .0) (y .0) (z .0) (fields-of φ f (x .0) (y .0) (z .0) (y .1, z .1))) (z .2))

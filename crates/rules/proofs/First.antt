@@ -1,25 +1,24 @@
--- The theorem of the choice, in the words of document 01. Assumes nothing.
-use mathlib.Core.Path.{_≡_, sym, _∙_, subst}
+-- The theorem of the choice, in words: what is taken counts, and no entry that counts is ahead of it. Assumes nothing.
+use mathlib.Core.Path.{_≡_, _∙_}
 use Prim.Native.Nat.{ℕ, _<_}
-use mathlib.Core.Bool.{Bool, true, false, _&&_, _||_, true≢false}
-use mathlib.Core.List.{[], _∷_}
+use mathlib.Core.Bool.{true, false, _&&_, _||_}
 use lib.Dec.{eqb, ltb}
 use borrow.Author.Tests.{lt-ltb}
 use Rattle.meaning.specs.Lists.{has}
 use Rattle.meaning.specs.Formula.{Formula}
 use Rattle.meaning.specs.WellFormed.{weight, fits, wellFormed}
-use Rattle.rules.specs.Entry.{Kind, unit, pure, subsume, strengthen, equality, resolve, expand, code, entry, Call, call, readEntry, usesB}
+use Rattle.rules.specs.Entry.{Kind, unit, pure, subsume, strengthen, equality, resolve, expand, code, entry, call, readEntry, usesB}
 use Rattle.rules.specs.Step.{resultOf}
 use Rattle.rules.specs.Choice.{costly, allowedCall, onCall, allowed, indices, variables, firsts, seconds, takeStep, choose}
 use Rattle.rules.proofs.Ahead.{leftOf, pairBefore, lighterThan, ahead}
-use Rattle.meaning.proofs.Basics.{false-of, and-l, and-r, and-i, or-il, or-ir, or-elim}
+use Rattle.meaning.proofs.Basics.{false-of, and-l, and-r, and-i, or-il, or-ir, or-elim, clash}
 use Rattle.rules.proofs.Before.{before, inOrder, precedes}
 use Rattle.rules.proofs.Entries.{entry-read}
 use Rattle.rules.proofs.Choose.{Listed, listed, index-below, variable-mentions}
 use Rattle.rules.proofs.Order.{index-order, kind-order, variable-order}
 use Rattle.meaning.proofs.Parts.{good-of}
-use Rattle.rules.proofs.Kept.{allowed-wanted, wanted-permitted}
 use Rattle.rules.proofs.Chosen.{Takes, choose-takes, takes-allowed}
+use Rattle.rules.proofs.Permitted.{wanted-permitted, allowed-wanted}
 
 module _ (φ : Formula) (w : wellFormed φ ≡ true) where
   lower : (c a : ℕ) → has c (indices φ) ≡ true → ltb c a ≡ true → before (indices φ) c a ≡ true
@@ -29,32 +28,21 @@ module _ (φ : Formula) (w : wellFormed φ ≡ true) where
   unfolding leftOf
   left c a i h = variable-order φ c a (good-of φ w) (variable-mentions φ a i) ∙ h
 
-  pair : (c d a b : ℕ) → has c (indices φ) ≡ true → has d (indices φ) ≡ true → pairBefore c d a b ≡ true → (before (indices φ) c a || (eqb c a && before (indices φ) d b)) ≡ true
+  pair : (c d a b : ℕ) → has c (indices φ) ≡ true → has d (indices φ) ≡ true → pairBefore c d a b ≡ true
+      → (before (indices φ) c a || (eqb c a && before (indices φ) d b)) ≡ true
   unfolding pairBefore
-  pair c d a b i j h =
-      or-elim (ltb c a) (eqb c a && ltb d b) h
-      (λ e. or-il (before (indices φ) c a) (eqb c a && before (indices φ) d b) (lower c a i e))
-      (λ e. or-ir (before (indices φ) c a) (eqb c a && before (indices φ) d b) (and-i (eqb c a) (before (indices φ) d b) (and-l (eqb c a) (ltb d b) e) (lower d b j (and-r (eqb c a) (ltb d b) e))))
+  pair c d a b i j h = or-elim _ _ h (λ e. or-il _ _ (lower c a i e)) (λ e. let l = lower d b j (search and-r) in search (or-ir, and-i, and-l))
 
   weighed : (k : Kind) (c a : ℕ) → has a (variables φ) ≡ true → lighterThan φ k c a ≡ true
       → (ltb (weight (resultOf φ k c 0)) (weight (resultOf φ k a 0)) || (eqb (weight (resultOf φ k c 0)) (weight (resultOf φ k a 0)) && before (variables φ) c a)) ≡ true
   unfolding lighterThan
-  weighed k c a i h =
-      or-elim less (same-weight && leftOf φ c a) h
-      (or-il less (same-weight && before (variables φ) c a))
-      (λ e. or-ir less (same-weight && before (variables φ) c a) (and-i same-weight (before (variables φ) c a) (and-l same-weight (leftOf φ c a) e) (left c a i (and-r same-weight (leftOf φ c a) e))))
-    where
-      less : Bool
-      less = ltb (weight (resultOf φ k c 0)) (weight (resultOf φ k a 0))
-
-      same-weight : Bool
-      same-weight = eqb (weight (resultOf φ k c 0)) (weight (resultOf φ k a 0))
+  weighed k c a i h = or-elim (ltb (weight (resultOf φ k c 0)) (weight (resultOf φ k a 0))) _ h (λ e. search or-il) (λ e. let l = left c a i (search and-r) in search (or-ir, and-i, and-l))
 
   -- for steps in the kind's lists the words say what the lists say
   ahead-precedes : (k : Kind) (c d a b : ℕ) → Listed φ k c d → Listed φ k a b → ahead φ k c d a b ≡ true → precedes φ k c d a b ≡ true
   unfolding ahead precedes inOrder costly firsts seconds usesB
-  ahead-precedes unit c d a b l m h = or-il (before (indices φ) c a) (eqb c a && before (0 ∷ []) d b) (lower c a (l .0) h)
-  ahead-precedes pure c d a b l m h = or-il (before (variables φ) c a) (eqb c a && before (0 ∷ []) d b) (left c a (m .0) h)
+  ahead-precedes unit c d a b l m h = or-il _ _ (lower c a (l .0) h)
+  ahead-precedes pure c d a b l m h = or-il _ _ (left c a (m .0) h)
   ahead-precedes subsume c d a b l m h = pair c d a b (l .0) (l .1) h
   ahead-precedes strengthen c d a b l m h = pair c d a b (l .0) (l .1) h
   ahead-precedes equality c d a b l m h = pair c d a b (l .0) (l .1) h
@@ -79,6 +67,6 @@ choose-first E φ w f k a b h = record { counts = takes-allowed E φ f k a b h; 
 
     no-ahead : (e c d : ℕ) → readEntry e ≡ call k c d → ahead φ k c d a b ≡ true → onCall (allowedCall E φ) (readEntry e) ≡ false
     no-ahead e c d r p =
-        false-of (onCall (allowedCall E φ) (readEntry e))
-        (λ i. true≢false (sym i ∙ t .first-of-kind e c d r
-        (ahead-precedes φ w k c d a b (listed φ k c d ((entry-read e k c d r) .fields .b-used) (wanted-permitted E φ k c d (allowed-wanted E φ k c d (subst (λ (x : Call). onCall (allowedCall E φ) x ≡ true) r i)))) (t .is-listed) p)))
+        false-of _
+        (λ i. clash i (t .first-of-kind e c d r
+        (ahead-precedes φ w k c d a b (listed φ k c d ((entry-read e k c d r) .fields .b-used) (wanted-permitted E φ k c d (allowed-wanted E φ k c d (rw r at i)))) (t .is-listed) p)))
