@@ -1,3 +1,4 @@
+pub mod Shortcuts
 pub mod Permitted
 pub mod Good
 pub mod Place
