@@ -1,7 +1,6 @@
 -- What `choose` takes counts and comes first; where it is stuck no entry counts. Assumes nothing.
-use mathlib.Core.Path.{_≡_, refl, sym, _∙_, ap}
+use mathlib.Core.Path.{_≡_, refl, sym, _∙_, ap, subst}
 use Prim.Native.Nat.{ℕ}
-use native.Mathlib.Omega.{arith}
 use mathlib.Core.Bool.{Bool, true, false, false≢true}
 use mathlib.Core.List.{List, [], _∷_, map}
 use lib.Dec.{eqb}
@@ -9,8 +8,8 @@ use Rattle.meaning.specs.Lists.{anyOf, has}
 use Rattle.meaning.specs.Formula.{Formula}
 use Rattle.meaning.specs.WellFormed.{fits}
 use Rattle.rules.specs.Entry.{Kind, unit, pure, subsume, strengthen, equality, resolve, expand, code, entry, Call, bad, call, readEntry}
-use Rattle.rules.specs.Choice.{allowedCall, blockedCall, onCall, allowed, blocked, Found, none, found, firsts, candidate, anyBlocked, takeStep, stuck, takeFound, chooseOf, kinds, choose, seconds}
-use Rattle.meaning.proofs.Basics.{clash, and-l, and-r, or-il, or-ir, or-elim, not-true, eqb-true, eqb-eq, eqb-self}
+use Rattle.rules.specs.Choice.{allowedCall, blockedCall, onCall, allowed, blocked, Found, none, found, firsts, candidate, anyBlocked, takeStep, stuck, takeFound, chooseOf, kinds, choose, seconds, Choice}
+use Rattle.meaning.proofs.Basics.{clash, and-l, and-r, or-il, or-ir, or-elim, not-true, eqb-true, eqb-self}
 use Rattle.meaning.proofs.Lists.{any-has, any-witness, any-some, any-map}
 use Rattle.rules.proofs.Before.{before, sooner, precedes}
 use Rattle.rules.proofs.Entries.{Fields, read-entry, entry-read, code-inj}
@@ -37,40 +36,36 @@ module _ (E : ℕ) (φ : Formula) where
     at : candidate E φ k ≡ found a b
     sooner-none : (j : Kind) → before (map code ks) (code j) (code k) ≡ true → candidate E φ j ≡ none
 
-  taken-of : (ks : List Kind) (k : Kind) (a b : ℕ) → chooseOf E φ ks ≡ takeStep k a b → Taken ks k a b
-  unfolding chooseOf before takeFound
-  taken-of [] k a b e = absurd (let z : _≡_ {A = ℕ} 0 1 = cc in omega arith)
-  taken-of (x ∷ ks) k a b e = go (candidate E φ x) refl e (taken-of ks k a b)
-    where
-      go : (f : Found) → candidate E φ x ≡ f → takeFound x f (chooseOf E φ ks) ≡ takeStep k a b → (chooseOf E φ ks ≡ takeStep k a b → Taken ks k a b)
-          → Taken (x ∷ ks) k a b
-      go none h i ih =
-          let t : Taken ks k a b = ih i in
-          record {
-            at = t .at;
-            sooner-none = λ j l. or-elim _ _ (search and-r) (λ q. ap (candidate E φ) (sym (code-inj x j (eqb-true (code x) (code j) q))) ∙ h) (t .sooner-none j);
-          }
-      go (found c d) h i ih =
-          let y : x ≡ k = cc in
-          let v : found c d ≡ found a b = cc in
-          record { at = ap (candidate E φ) (sym y) ∙ (h ∙ v); sooner-none = λ j l. clash (eqb-eq (ap code y)) (search (and-l, not-true)) }
-
   record Stuck (ks : List Kind) (r : Bool) : Type 0 where
     for-room : anyBlocked E φ ≡ r
     none-of : (j : Kind) → has (code j) (map code ks) ≡ true → candidate E φ j ≡ none
 
-  stuck-of : (ks : List Kind) (r : Bool) → chooseOf E φ ks ≡ stuck r → Stuck ks r
-  unfolding chooseOf has anyOf takeFound
-  stuck-of [] r e = record { for-room = cc; none-of = λ j h. absurd (false≢true h) }
-  stuck-of (x ∷ ks) r e = go (candidate E φ x) refl e (stuck-of ks r)
+  -- what the choice says, by what it is
+  abbrev Chose : List Kind → Choice → Type 0
+  Chose ks (takeStep k a b) = Taken ks k a b
+  Chose ks (stuck r) = Stuck ks r
+
+  chose : (ks : List Kind) → Chose ks (chooseOf E φ ks)
+  unfolding chooseOf takeFound before has anyOf
+  chose [] = record { for-room = refl; none-of = λ j h. absurd (false≢true h) }
+  chose (x ∷ ks) = go (candidate E φ x) refl (chooseOf E φ ks) (chose ks)
     where
-      go : (f : Found) → candidate E φ x ≡ f → takeFound x f (chooseOf E φ ks) ≡ stuck r → (chooseOf E φ ks ≡ stuck r → Stuck ks r) → Stuck (x ∷ ks) r
-      go none h i ih =
+      go : (f : Found) → candidate E φ x ≡ f → (c : Choice) → Chose ks c → Chose (x ∷ ks) (takeFound x f c)
+      go (found a b) h c t = record { at = h; sooner-none = λ j l. clash (eqb-self (code x)) (search (and-l, not-true)) }
+      go none h (takeStep k a b) t =
           record {
-            for-room = (ih i) .for-room;
-            none-of = λ j l. or-elim (eqb (code j) (code x)) _ l (λ q. ap (candidate E φ) (code-inj j x (eqb-true (code j) (code x) q)) ∙ h) ((ih i) .none-of j);
+            at = t .at;
+            sooner-none = λ j l. or-elim (eqb (code x) (code j)) _ (search and-r) (λ q. ap (candidate E φ) (sym (code-inj x j (eqb-true _ _ q))) ∙ h) (t .sooner-none j);
           }
-      go (found c d) h i ih = absurd (let z : _≡_ {A = ℕ} 0 1 = cc in omega arith)
+      go none h (stuck r) t =
+          record {
+            for-room = t .for-room;
+            none-of = λ j l. or-elim (eqb (code j) (code x)) _ l (λ q. ap (candidate E φ) (code-inj j x (eqb-true _ _ q)) ∙ h) (t .none-of j);
+          }
+
+  stuck-of : (r : Bool) → choose E φ ≡ stuck r → Stuck kinds r
+  unfolding choose
+  stuck-of r h = subst (Chose kinds) h (chose kinds)
 
   -- What is taken ---------------------------------------------------------------------------------------------
   -- the step (k, a, b) counts, has an entry, and no entry that counts is of a kind that is tried sooner, or of its kind and before it
@@ -89,7 +84,7 @@ module _ (E : ℕ) (φ : Formula) where
   choose-takes k a b h = record { counts = best .counts; is-listed = best .listed-as; first-kind = no-sooner; first-of-kind = first-one }
     where
       t : Taken kinds k a b
-      t = taken-of kinds k a b h
+      t = subst (Chose kinds) h (chose kinds)
 
       best : Best E φ k a b
       best = find-found E φ k a b (t .at)
@@ -115,7 +110,7 @@ module _ (E : ℕ) (φ : Formula) where
 
   pub stuck-none : (r : Bool) → choose E φ ≡ stuck r → (e : ℕ) → allowed E φ e ≡ false
   unfolding choose
-  stuck-none r h e = no-call (λ j. (stuck-of kinds r h) .none-of j (all-kinds j)) e (readEntry e) refl
+  stuck-none r h e = no-call (λ j. (stuck-of r h) .none-of j (all-kinds j)) e (readEntry e) refl
 
   blocked-any : (k : Kind) (a b : ℕ) → Used k b → blockedCall E φ k a b ≡ true → anyBlocked E φ ≡ true
   unfolding anyBlocked
@@ -131,13 +126,13 @@ module _ (E : ℕ) (φ : Formula) where
   -- stuck for room exactly if some entry fails only for room
   pub stuck-blocked : (r : Bool) → choose E φ ≡ stuck r → (e : ℕ) → blocked E φ e ≡ true → r ≡ true
   unfolding choose blocked
-  stuck-blocked r h e b = sym ((stuck-of kinds r h) .for-room) ∙ blocked-call e (readEntry e) refl b
+  stuck-blocked r h e b = sym ((stuck-of r h) .for-room) ∙ blocked-call e (readEntry e) refl b
 
   pub stuck-room : fits φ ≡ true → choose E φ ≡ stuck true → (e : ℕ) × (blocked E φ e ≡ true)
   unfolding choose anyBlocked blocked onCall
   stuck-room f h =
       let x : (k : Kind) × (anyOf (λ a. anyOf (blockedCall E φ k a) (seconds φ k)) (firsts φ k) ≡ true) =
-      any-some _ kinds ((stuck-of kinds true h) .for-room) in
+      any-some _ kinds ((stuck-of true h) .for-room) in
       let y : (a : ℕ) × (has a (firsts φ (x .0)) ≡ true) × (anyOf (blockedCall E φ (x .0) a) (seconds φ (x .0)) ≡ true) =
       any-witness _ _ (x .1) in
       let z : (b : ℕ) × (has b (seconds φ (x .0)) ≡ true) × (blockedCall E φ (x .0) (y .0) b ≡ true) = any-witness _ _ (y .2) in

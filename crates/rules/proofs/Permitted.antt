@@ -89,16 +89,14 @@ pure-var cs a = go (occurs (plain a) cs)
     go false = var-of-negated a
 
 -- a literal of its variable becomes true
+either-becomes : (φ : Formula) (v : ℕ) (s : Bool) (k l : ℕ) → var k ≡ v → var l ≡ v
+    → (i : ℕ) × (var i ≡ v) × (cond s (becomesTrue k φ) (becomesTrue l φ) ≡ becomesTrue i φ)
+either-becomes φ v true k l x y = (k, x, refl)
+either-becomes φ v false k l x y = (l, y, refl)
+
 pub pure-becomes : (φ : Formula) (a : ℕ) → (l : ℕ) × (var l ≡ a) × (pureRaw φ a ≡ becomesTrue l φ)
 unfolding pureRaw
-pure-becomes φ a = go (universal (φ .prefix) a)
-  where
-    k : ℕ
-    k = pureLit (φ .clauses) a
-
-    go : (s : Bool) → (l : ℕ) × (var l ≡ a) × (cond s (becomesTrue (opposite k) φ) (becomesTrue k φ) ≡ becomesTrue l φ)
-    go true = (opposite k, var-opp k ∙ pure-var (φ .clauses) a, refl)
-    go false = (k, pure-var (φ .clauses) a, refl)
+pure-becomes φ a = either-becomes φ a (universal (φ .prefix) a) _ _ (simp (var-opp, pure-var)) (simp pure-var)
 
 pub record SubsumeSays (φ : Formula) (a b : ℕ) : Type 0 where
   pub there-a : isClause (φ .clauses) a ≡ true

@@ -1,5 +1,5 @@
 -- What the searches find: the first, and the lightest, then the first. Assumes nothing.
-use mathlib.Core.Path.{_≡_, refl, sym, _∙_, ap}
+use mathlib.Core.Path.{_≡_, refl, sym, _∙_, ap, subst}
 use Prim.Native.Nat.{ℕ, _<_, _≤_}
 use native.Mathlib.Omega.{arith}
 use mathlib.Core.Bool.{Bool, true, false, _&&_, _||_, cond, false≢true}
@@ -10,9 +10,6 @@ use Rattle.meaning.specs.Lists.{anyOf, has}
 use Rattle.rules.specs.Choice.{Found, none, found, orElse, firstB, firstPair, lighter, lightest}
 use Rattle.meaning.proofs.Basics.{clash, and-l, and-r, or-il, or-ir, or-elim, not-true, eqb-true, eqb-eq}
 use Rattle.rules.proofs.Before.{before}
-
-pub none-found {ℓ} : {A : Type ℓ} (a b : ℕ) → none ≡ found a b → A
-none-found a b e = absurd (let z : _≡_ {A = ℕ} 0 1 = cc in omega arith)
 
 -- what comes before another in a list is its head, or comes before it in the rest; none comes before the head
 before-elim {ℓ} : {A : Type ℓ} (z : ℕ) (l : List ℕ) (x y : ℕ) → before (z ∷ l) x y ≡ true → (z ≡ x → A) → (before l x y ≡ true → A) → A
@@ -45,29 +42,21 @@ record FirstB (t : ℕ → Bool) (bs : List ℕ) (b : ℕ) : Type 0 where
   inside : has b bs ≡ true
   first : (c : ℕ) → before bs c b ≡ true → t c ≡ false
 
-found-b : (t : ℕ → Bool) (x : ℕ) (bs : List ℕ) (a b : ℕ) → firstB t x bs ≡ found a b → (x ≡ a) × FirstB t bs b
-unfolding firstB
-found-b t x [] a b e = none-found a b e
-found-b t x (y ∷ bs) a b e = go (t y) refl e (found-b t x bs a b)
-  where
-    go : (s : Bool) → t y ≡ s → cond s (found x y) (firstB t x bs) ≡ found a b → (firstB t x bs ≡ found a b → (x ≡ a) × FirstB t bs b)
-        → (x ≡ a) × FirstB t (y ∷ bs) b
-    go true h k ih =
-        let p : x ≡ a = cc in
-        let q : y ≡ b = cc in
-        (p, record { passes = ap t (sym q) ∙ h; inside = has-head y bs b q; first = λ c i. before-head y bs c b q i })
-    go false h k ih =
-        let r : (x ≡ a) × FirstB t bs b = ih k in
-        (r .0, record { passes = r .1 .passes; inside = has-tail y bs b (r .1 .inside); first = λ c i. before-elim y bs c b i (λ j. ap t (sym j) ∙ h) (r .1 .first c) })
+-- what a search says, by what it finds
+abbrev SaysB : (ℕ → Bool) → ℕ → List ℕ → Found → Type 0
+SaysB t x bs none = (c : ℕ) → has c bs ≡ true → t c ≡ false
+SaysB t x bs (found a b) = (x ≡ a) × FirstB t bs b
 
-none-b : (t : ℕ → Bool) (x : ℕ) (bs : List ℕ) → firstB t x bs ≡ none → (c : ℕ) → has c bs ≡ true → t c ≡ false
+says-b : (t : ℕ → Bool) (x : ℕ) (bs : List ℕ) → SaysB t x bs (firstB t x bs)
 unfolding firstB
-none-b t x [] e c h = has-none c h
-none-b t x (y ∷ bs) e c h = go (t y) refl e (none-b t x bs)
+says-b t x [] = λ c h. has-none c h
+says-b t x (y ∷ bs) = go (t y) refl (firstB t x bs) (says-b t x bs)
   where
-    go : (s : Bool) → t y ≡ s → cond s (found x y) (firstB t x bs) ≡ none → (firstB t x bs ≡ none → (c : ℕ) → has c bs ≡ true → t c ≡ false) → t c ≡ false
-    go true i k ih = none-found x y (sym k)
-    go false i k ih = has-elim y bs c h (λ j. ap t j ∙ i) (ih k c)
+    go : (s : Bool) → t y ≡ s → (f : Found) → SaysB t x bs f → SaysB t x (y ∷ bs) (cond s (found x y) f)
+    go true h f r = (refl, record { passes = h; inside = has-head y bs y refl; first = λ c i. before-head y bs c y refl i })
+    go false h none r = λ c i. has-elim y bs c i (λ j. ap t j ∙ h) (r c)
+    go false h (found a b) r =
+        (r .0, record { passes = r .1 .passes; inside = has-tail y bs b (r .1 .inside); first = λ c i. before-elim y bs c b i (λ j. ap t (sym j) ∙ h) (r .1 .first c) })
 
 -- The first a, then b ----------------------------------------------------------------------------------------
 pub record FirstPair (t : ℕ → ℕ → Bool) (as′ bs : List ℕ) (a b : ℕ) : Type 0 where
@@ -76,47 +65,37 @@ pub record FirstPair (t : ℕ → ℕ → Bool) (as′ bs : List ℕ) (a b : ℕ
   pub in-b : has b bs ≡ true
   pub first : (c d : ℕ) → has d bs ≡ true → (before as′ c a || (eqb c a && before bs d b)) ≡ true → t c d ≡ false
 
-pub found-pair : (t : ℕ → ℕ → Bool) (l bs : List ℕ) (a b : ℕ) → firstPair t l bs ≡ found a b → FirstPair t l bs a b
+abbrev SaysPair : (ℕ → ℕ → Bool) → List ℕ → List ℕ → Found → Type 0
+SaysPair t l bs none = (c d : ℕ) → has c l ≡ true → has d bs ≡ true → t c d ≡ false
+SaysPair t l bs (found a b) = FirstPair t l bs a b
+
+says-pair : (t : ℕ → ℕ → Bool) (l bs : List ℕ) → SaysPair t l bs (firstPair t l bs)
 unfolding firstPair orElse
-found-pair t [] bs a b e = none-found a b e
-found-pair t (x ∷ l) bs a b e = go (firstB (t x) x bs) refl e (found-pair t l bs a b)
+says-pair t [] bs = λ c d h i. has-none c h
+says-pair t (x ∷ l) bs = go (firstB (t x) x bs) (says-b (t x) x bs) (firstPair t l bs) (says-pair t l bs)
   where
-    go : (f : Found) → firstB (t x) x bs ≡ f → orElse f (firstPair t l bs) ≡ found a b → (firstPair t l bs ≡ found a b → FirstPair t l bs a b)
-        → FirstPair t (x ∷ l) bs a b
-    go none h k ih = record { passes = r .passes; in-a = has-tail x l a (r .in-a); in-b = r .in-b; first = order }
-      where
-        r : FirstPair t l bs a b
-        r = ih k
+    go : (f : Found) → SaysB (t x) x bs f → (g : Found) → SaysPair t l bs g → SaysPair t (x ∷ l) bs (orElse f g)
+    go none n none r = λ c d h i. has-elim x l c h (λ q. ap (λ (v : ℕ). t v d) q ∙ n d i) (λ q. r c d q i)
+    go none n (found a b) r =
+        record {
+          passes = r .passes;
+          in-a = has-tail x l a (r .in-a);
+          in-b = r .in-b;
+          first = λ c d i j. or-elim (before (x ∷ l) c a) _ j (λ m. before-elim x l c a m (λ q. ap (λ (v : ℕ). t v d) (sym q) ∙ n d i) (λ q. r .first c d i (or-il _ _ q))) (λ m. r .first c d i (or-ir (before l c a) _ m));
+        }
+    go (found a b) n g r =
+        record {
+          passes = rw (n .0) at (n .1 .passes);
+          in-a = has-head x l a (n .0);
+          in-b = n .1 .inside;
+          first = λ c d i j. or-elim (before (x ∷ l) c a) _ j (before-head x l c a (n .0)) (λ m. ap (λ (v : ℕ). t v d) (eqb-true c a (and-l _ _ m) ∙ sym (n .0)) ∙ n .1 .first d (and-r (eqb c a) _ m));
+        }
 
-        order : (c d : ℕ) → has d bs ≡ true → (before (x ∷ l) c a || (eqb c a && before bs d b)) ≡ true → t c d ≡ false
-        order c d i j =
-            or-elim _ _ j
-            (λ m. before-elim x l c a m (λ q. ap (λ (y : ℕ). t y d) (sym q) ∙ none-b (t x) x bs h d i) (λ q. r .first c d i (or-il _ _ q)))
-            (λ m. r .first c d i (or-ir (before l c a) _ m))
-    go (found y z) h k ih = record { passes = rw p at (g .passes); in-a = has-head x l a p; in-b = g .inside; first = order }
-      where
-        r : (x ≡ a) × FirstB (t x) bs b
-        r = found-b (t x) x bs a b (h ∙ k)
-
-        p : x ≡ a
-        p = r .0
-
-        g : FirstB (t x) bs b
-        g = r .1
-
-        order : (c d : ℕ) → has d bs ≡ true → (before (x ∷ l) c a || (eqb c a && before bs d b)) ≡ true → t c d ≡ false
-        order c d i j =
-            or-elim _ _ j (before-head x l c a p) (λ m. ap (λ (v : ℕ). t v d) (eqb-true c a (search and-l) ∙ sym p) ∙ g .first d (search and-r))
+pub found-pair : (t : ℕ → ℕ → Bool) (l bs : List ℕ) (a b : ℕ) → firstPair t l bs ≡ found a b → FirstPair t l bs a b
+found-pair t l bs a b e = subst (SaysPair t l bs) e (says-pair t l bs)
 
 pub none-pair : (t : ℕ → ℕ → Bool) (l bs : List ℕ) → firstPair t l bs ≡ none → (c d : ℕ) → has c l ≡ true → has d bs ≡ true → t c d ≡ false
-unfolding firstPair orElse
-none-pair t [] bs e c d h i = has-none c h
-none-pair t (x ∷ l) bs e c d h i = go (firstB (t x) x bs) refl e (none-pair t l bs)
-  where
-    go : (f : Found) → firstB (t x) x bs ≡ f → orElse f (firstPair t l bs) ≡ none
-        → (firstPair t l bs ≡ none → (c d : ℕ) → has c l ≡ true → has d bs ≡ true → t c d ≡ false) → t c d ≡ false
-    go none j k ih = has-elim x l c h (λ q. ap (λ (v : ℕ). t v d) q ∙ none-b (t x) x bs j d i) (λ q. ih k c d q i)
-    go (found y z) j k ih = none-found y z (sym k)
+none-pair t l bs e = subst (SaysPair t l bs) e (says-pair t l bs)
 
 -- The lightest, then the first -------------------------------------------------------------------------------
 pub record Lightest (t : ℕ → Bool) (w : ℕ → ℕ) (l : List ℕ) (a b : ℕ) : Type 0 where
@@ -126,44 +105,29 @@ pub record Lightest (t : ℕ → Bool) (w : ℕ → ℕ) (l : List ℕ) (a b : �
   pub least : (c : ℕ) → has c l ≡ true → t c ≡ true → w a ≤ w c
   pub first : (c : ℕ) → before l c a ≡ true → t c ≡ true → w a < w c
 
-either-none {ℓ} : {A : Type ℓ} (s : Bool) (a b c d : ℕ) → cond s (found a b) (found c d) ≡ none → A
-either-none true a b c d k = none-found a b (sym k)
-either-none false a b c d k = none-found c d (sym k)
+abbrev SaysLight : (ℕ → Bool) → (ℕ → ℕ) → List ℕ → Found → Type 0
+SaysLight t w l none = (c : ℕ) → has c l ≡ true → t c ≡ false
+SaysLight t w l (found a b) = Lightest t w l a b
 
-lighter-none {ℓ} : {A : Type ℓ} (w : ℕ → ℕ) (x : ℕ) (f : Found) → lighter w x f ≡ none → A
-unfolding lighter
-lighter-none w x none k = none-found x 0 (sym k)
-lighter-none w x (found y z) k = either-none (leb (w x) (w y)) x 0 y z k
-
-pub none-lightest : (t : ℕ → Bool) (w : ℕ → ℕ) (l : List ℕ) → lightest t w l ≡ none → (c : ℕ) → has c l ≡ true → t c ≡ false
-unfolding lightest
-none-lightest t w [] e c h = has-none c h
-none-lightest t w (x ∷ l) e c h = go (t x) refl e (none-lightest t w l)
-  where
-    go : (s : Bool) → t x ≡ s → cond s (lighter w x (lightest t w l)) (lightest t w l) ≡ none → (lightest t w l ≡ none → (c : ℕ) → has c l ≡ true → t c ≡ false)
-        → t c ≡ false
-    go true i k ih = lighter-none w x (lightest t w l) k
-    go false i k ih = has-elim x l c h (λ j. ap t j ∙ i) (ih k c)
-
-pub found-lightest : (t : ℕ → Bool) (w : ℕ → ℕ) (l : List ℕ) (a b : ℕ) → lightest t w l ≡ found a b → Lightest t w l a b
+says-light : (t : ℕ → Bool) (w : ℕ → ℕ) (l : List ℕ) → SaysLight t w l (lightest t w l)
 unfolding lightest lighter
-found-lightest t w [] a b e = none-found a b e
-found-lightest t w (x ∷ l) a b e = go (found-lightest t w l) (t x) refl e
+says-light t w [] = λ c h. has-none c h
+says-light t w (x ∷ l) = go (t x) refl (lightest t w l) (says-light t w l)
   where
     -- x passes and no weight of the rest is less
-    head : t x ≡ true → x ≡ a → 0 ≡ b → ((c : ℕ) → has c l ≡ true → t c ≡ true → w x ≤ w c) → Lightest t w (x ∷ l) a b
-    head i p q below =
+    head : t x ≡ true → ((c : ℕ) → has c l ≡ true → t c ≡ true → w x ≤ w c) → Lightest t w (x ∷ l) x 0
+    head i below =
         record {
-          no-b = sym q;
-          passes = ap t (sym p) ∙ i;
-          inside = has-head x l a p;
-          least = λ c h k. (rw p at (has-elim x l c h (λ j. let z : w c ≡ w x = ap w j in omega arith) (λ j. below c j k)));
-          first = λ c h k. before-head x l c a p h;
+          no-b = refl;
+          passes = i;
+          inside = has-head x l x refl;
+          least = λ c h k. has-elim x l c h (λ j. let z : w c ≡ w x = ap w j in omega arith) (λ j. below c j k);
+          first = λ c h k. before-head x l c x refl h;
         }
 
     -- the rest's, and x does not pass or weighs more
-    tail : Lightest t w l a b → (t x ≡ true → w a < w x) → Lightest t w (x ∷ l) a b
-    tail r more =
+    tail : (a b : ℕ) → Lightest t w l a b → (t x ≡ true → w a < w x) → Lightest t w (x ∷ l) a b
+    tail a b r more =
         record {
           no-b = r .no-b;
           passes = r .passes;
@@ -172,28 +136,18 @@ found-lightest t w (x ∷ l) a b e = go (found-lightest t w l) (t x) refl e
           first = λ c h k. before-elim x l c a h (λ j. let z : w x ≡ w c = ap w j in let y : w a < w x = more (ap t j ∙ k) in omega arith) (λ j. r .first c j k);
         }
 
-    pick : ((y z : ℕ) → lightest t w l ≡ found y z → Lightest t w l y z) → (y z : ℕ) → lightest t w l ≡ found y z → t x ≡ true → (s : Bool)
-        → leb (w x) (w y) ≡ s
-        → cond s (found x 0) (found y z) ≡ found a b → Lightest t w (x ∷ l) a b
-    pick ih y z m i true j k =
-        let p : x ≡ a = cc in
-        let q : _≡_ {A = ℕ} 0 b = cc in
-        let r : Lightest t w l y z = ih y z m in
-        head i p q (λ c h v. let u : w y ≤ w c = r .least c h v in let o : w x ≤ w y = leb-true (w x) (w y) j in omega arith)
-    pick ih y z m i false j k =
-        let p : y ≡ a = cc in
-        tail (ih a b (m ∙ k)) (λ _. (rw p at (leb-false (w x) (w y) j)))
+    pick : (a b : ℕ) → Lightest t w l a b → t x ≡ true → (s : Bool) → leb (w x) (w a) ≡ s → SaysLight t w (x ∷ l) (cond s (found x 0) (found a b))
+    pick a b r i true j = head i (λ c h v. omega (arith, r .least c h v, leb-true (w x) (w a) j))
+    pick a b r i false j = tail a b r (λ _. leb-false (w x) (w a) j)
 
-    light : ((y z : ℕ) → lightest t w l ≡ found y z → Lightest t w l y z) → (f : Found) → lightest t w l ≡ f → t x ≡ true → lighter w x f ≡ found a b
-        → Lightest t w (x ∷ l) a b
-    light ih none m i k =
-        let v : found x 0 ≡ found a b = k in
-        let p : x ≡ a = cc in
-        let q : _≡_ {A = ℕ} 0 b = cc in
-        head i p q (λ c h u. clash u (none-lightest t w l m c h))
-    light ih (found y z) m i k = pick ih y z m i (leb (w x) (w y)) refl k
+    go : (s : Bool) → t x ≡ s → (f : Found) → SaysLight t w l f → SaysLight t w (x ∷ l) (cond s (lighter w x f) f)
+    go true i none r = head i (λ c h u. clash u (r c h))
+    go true i (found a b) r = pick a b r i (leb (w x) (w a)) refl
+    go false i none r = λ c h. has-elim x l c h (λ j. ap t j ∙ i) (r c)
+    go false i (found a b) r = tail a b r (λ u. clash u i)
 
-    go : ((y z : ℕ) → lightest t w l ≡ found y z → Lightest t w l y z) → (s : Bool) → t x ≡ s
-        → cond s (lighter w x (lightest t w l)) (lightest t w l) ≡ found a b → Lightest t w (x ∷ l) a b
-    go ih true i k = light ih (lightest t w l) refl i k
-    go ih false i k = tail (ih a b k) (λ u. clash u i)
+pub none-lightest : (t : ℕ → Bool) (w : ℕ → ℕ) (l : List ℕ) → lightest t w l ≡ none → (c : ℕ) → has c l ≡ true → t c ≡ false
+none-lightest t w l e = subst (SaysLight t w l) e (says-light t w l)
+
+pub found-lightest : (t : ℕ → Bool) (w : ℕ → ℕ) (l : List ℕ) (a b : ℕ) → lightest t w l ≡ found a b → Lightest t w l a b
+found-lightest t w l a b e = subst (SaysLight t w l) e (says-light t w l)
