@@ -1,0 +1,9 @@
+pub mod AndLaws
+pub mod CallLaws
+pub mod ClauseLaws
+pub mod PlaceLaws
+pub mod PureLaws
+pub mod EqualLaws
+pub mod StrengthenLaws
+pub mod ScanLaws
+pub mod SideLaws
