@@ -222,6 +222,11 @@ module _ (p : List ℕ) (i m : ℕ) (inv : largest p ≡ max m (largest (drop i 
   pub largest-end : length p ≤ i → m ≡ largest p
   largest-end h = let z : largest (drop i p) ≡ 0 = unfold largest in rw (drop-of-length-le p h) in omega arith
 
+-- The clauses' lines, one after another
+pub clauses-more : (c : List ℕ) (cs : List (List ℕ)) → Splits (clauseLines (c ∷ cs)) (clauseLine c) (clauseLines cs)
+unfolding clauseLines
+clauses-more c cs = record { is = refl }
+
 -- The whole text ---------------------------------------------------------------------------------------------
 -- a formula is written as its header, its prefix and its clauses, in this order
 pub write-splits : (φ : Formula) → Splits (write φ) (header (largest (φ .prefix)) (length (φ .clauses)) []) (prefixLines (φ .prefix) ++ clauseLines (φ .clauses))

@@ -52,7 +52,7 @@ module _ {text xs ys : List ℕ} (s : Splits text xs ys) where
       }
 
 -- Loops ------------------------------------------------------------------------------------------------------
--- `left`, written at `at`, makes `whole`, written at `from` in the buffer as it was lent, in which there is room for it
+-- `left`, written at `at`, makes `whole`, written at `from` in the buffer as it was lent
 pub record Going (whole left : List ℕ) (from at : ℕ) (lent out : List ℕ) : Type 0 where
   pub size : length out ≡ length lent
   pub place : at + length left ≡ from + length whole
