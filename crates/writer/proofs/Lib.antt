@@ -1,0 +1,4 @@
+pub mod ClauseLaws
+pub mod TextLaws
+pub mod AnswerLaws
+pub mod RoundTrip
