@@ -1,7 +1,7 @@
 -- The answers of the functions that add to a table, and what a caller learns from them.
 -- Assumes nothing.
 use Prim.Native.Nat.{ℕ, _+_, _-_, _/_, _≤_, _<_}
-use mathlib.Core.Path.{_≡_, refl, sym, ap, _∙_}
+use mathlib.Core.Path.{_≡_, sym, ap, _∙_}
 use mathlib.Core.Bool.{Bool, true, false, _&&_}
 use mathlib.Core.List.{List, [], _∷_, _++_}
 use lib.ListN.{length, take, drop, set, length-append}
@@ -11,16 +11,16 @@ use borrow.Rule.Slice.PartMut.{putMid}
 use native.Mathlib.Omega.{arith}
 use Rattle.meaning.specs.Lists.{allOf, anyOf, same}
 use Rattle.meaning.specs.Formula.{Formula, var}
-use Rattle.meaning.specs.Tidy.{kept, addTidied}
+use Rattle.meaning.specs.Tidy.{addTidied}
 use Rattle.meaning.specs.WellFormed.{literals, fits}
-use Rattle.meaning.proofs.Basics.{by-cases, false-of, and-l, and-r}
-use Rattle.meaning.proofs.Lists.{all-append, all-snoc}
-use Rattle.meaning.proofs.Parts.{Room, room-of, of-room}
-use Rattle.table.specs.Table.{tableOf, countsOf, clauseMore, variableMore, withClause, withNewClause, withVariable, Holds, Held}
+use Rattle.table.specs.Table.{tableOf, countsOf, clauseMore, variableMore, withClause, withNewClause, withVariable, Holds}
 use Rattle.table.specs.Answer.{Became}
 use Rattle.table.specs.declared.Counts.{Counts}
 use Rattle.table.specs.declared.Pushed.{Pushed}
 use Rattle.table.specs.declared.Pushed.the-variants.{Done, Full}
+use Rattle.meaning.proofs.Basics.{by-cases, false-of, and-l, and-r}
+use Rattle.meaning.proofs.Lists.{all-append, all-snoc}
+use Rattle.meaning.proofs.Parts.{Room, room-of, of-room}
 use Rattle.table.proofs.ListLaws.{tail-written}
 use Rattle.table.proofs.PadLaws.{literals-snoc}
 use Rattle.table.proofs.TableLaws.{table-pushed, table-variable}

@@ -12,12 +12,12 @@ use native.Mathlib.Omega.{arith}
 use native.Mathlib.Numerals.{add-one}
 use Rattle.meaning.specs.Lists.{allOf, anyOf, same}
 use Rattle.meaning.specs.Formula.{var, mentions}
-use Rattle.meaning.specs.WellFormed.{ascends, bound, reduced, tidyClause, goodPrefix, distinct}
+use Rattle.meaning.specs.WellFormed.{ascends, bound, tidyClause, goodPrefix, distinct}
+use Rattle.table.specs.Ranks.{ranksOf, rankAt, small, lastBy, staysBy, goodEntries}
+use Rattle.table.specs.Layout.{ranked}
 use Rattle.meaning.proofs.Basics.{by-cases, iff, clash, false-of, and-l, and-r, and-i}
 use Rattle.meaning.proofs.Lists.{all-le}
 use Rattle.meaning.proofs.Prefix.{mentioned-all}
-use Rattle.table.specs.Ranks.{rankFrom, ranksOf, rankAt, small, lastBy, staysBy, goodEntries}
-use Rattle.table.specs.Layout.{ranked}
 use Rattle.table.proofs.RankLaws.{rank-at, rank-there}
 use Rattle.table.proofs.ReduceLaws.{reduced-is}
 

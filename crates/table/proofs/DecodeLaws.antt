@@ -1,6 +1,6 @@
 -- A table and its counts give the formula back, so a table holds at most one formula.
 -- Assumes nothing.
-use Prim.Native.Nat.{ℕ, _+_, _-_, _≤_}
+use Prim.Native.Nat.{ℕ, _+_, _-_}
 use mathlib.Core.Path.{_≡_, refl, sym, ap, _∙_}
 use mathlib.Core.Bool.{Bool}
 use mathlib.Core.List.{List, [], _∷_, _++_, append-assoc}
@@ -8,9 +8,9 @@ use lib.ListN.{length, take, drop, replicate, length-append}
 use lib.Seq.{take-at, drop-at}
 use native.Mathlib.Nat.{add-sub-cancel-left}
 use Rattle.meaning.specs.Formula.{Formula}
-use Rattle.meaning.proofs.Parts.{Room}
 use Rattle.table.specs.Table.{allLiterals, endsFrom, tableOf, countsOf, cut, decode, Holds}
 use Rattle.table.specs.declared.Counts.{Counts}
+use Rattle.meaning.proofs.Parts.{Room}
 use Rattle.table.proofs.TableLaws.{table-prefix, table-ends, table-rest}
 use Rattle.table.proofs.HoldLaws.{room}
 

@@ -2,23 +2,23 @@
 -- clauses tidy and distinct.
 -- Assumes nothing.
 use Prim.Native.Nat.{ℕ}
-use mathlib.Core.Path.{_≡_, refl, sym, ap, _∙_}
+use mathlib.Core.Path.{_≡_, sym}
 use mathlib.Core.Bool.{Bool, true, false, _&&_}
 use mathlib.Core.List.{List}
 use lib.ListN.{length, take}
 use lib.Dec.{eqb, leb}
 use borrow.Author.Tests.{eq-eqb, eqb-true}
 use Rattle.meaning.specs.Lists.{allOf, same}
-use Rattle.meaning.specs.Formula.{Formula, var}
+use Rattle.meaning.specs.Formula.{var}
 use Rattle.meaning.specs.WellFormed.{goodPrefix, tidyClause, distinct, wellFormed, literals, fits}
-use Rattle.meaning.proofs.Basics.{iff, clash, false-of, and-l, and-r, and-i}
-use Rattle.meaning.proofs.Lists.{same-path, same-self}
-use Rattle.meaning.proofs.Parts.{room-of}
 use Rattle.table.specs.Table.{tableOf, countsOf, decode, Holds}
 use Rattle.table.specs.Ranks.{goodEntries}
 use Rattle.table.specs.Layout.{layoutOk}
 use Rattle.table.specs.Check.{counted, layoutHolds, goodTable}
 use Rattle.table.specs.declared.Counts.{Counts}
+use Rattle.meaning.proofs.Basics.{iff, clash, false-of, and-l, and-r, and-i}
+use Rattle.meaning.proofs.Lists.{same-path, same-self}
+use Rattle.meaning.proofs.Parts.{room-of}
 use Rattle.table.proofs.HoldLaws.{count-variables, count-clauses, count-literals}
 use Rattle.table.proofs.LaidLaws.{layout-holds, holds-layout}
 

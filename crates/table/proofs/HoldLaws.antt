@@ -2,18 +2,17 @@
 -- Assumes nothing.
 use Prim.Native.Nat.{ℕ, suc, _+_, _-_, _≤_, _<_}
 use mathlib.Core.Path.{_≡_, refl, sym, ap, _∙_}
-use mathlib.Core.Bool.{Bool, true, false}
-use mathlib.Core.List.{List, [], _++_}
+use mathlib.Core.Bool.{Bool}
+use mathlib.Core.List.{List, []}
 use lib.ListN.{length, getD, take, drop, replicate}
 use native.Mathlib.Omega.{arith}
-use native.Mathlib.Nat.{add-sub-cancel-left}
 use native.Mathlib.Numerals.{add-one}
 use Rattle.meaning.specs.Lists.{allOf}
 use Rattle.meaning.specs.Formula.{Formula}
 use Rattle.meaning.specs.WellFormed.{literals, fits}
-use Rattle.meaning.proofs.Parts.{Room, room-of}
 use Rattle.table.specs.Table.{allLiterals, startOf, tableOf, countsOf, Holds, Held, emptyFormula}
 use Rattle.table.specs.declared.Counts.{Counts}
+use Rattle.meaning.proofs.Parts.{Room, room-of}
 use Rattle.table.proofs.PadLaws.{start-zero, start-next, start-within}
 use Rattle.table.proofs.TableLaws.{length-table, table-end-at, table-clause, table-used, table-prefix, table-empty}
 

@@ -2,7 +2,7 @@
 -- Assumes nothing.
 use Prim.Native.Nat.{ℕ, zero, suc, _+_, _-_, _≤_, _<_}
 use mathlib.Core.Path.{_≡_, refl, sym, ap, _∙_}
-use mathlib.Core.Bool.{Bool, true, false, _||_, cond}
+use mathlib.Core.Bool.{Bool, true, false, cond}
 use mathlib.Core.List.{List, [], _∷_, _++_, append-assoc}
 use lib.ListN.{length, getD, take, drop, set, length-append, length-take, length-drop, drop-of-length-le, take-append-drop, List·getD-append}
 use lib.Seq.{drop-cons, getD-take, length-take-le, take-suc, take-nil, take-take, take-at, set-at, append-snoc}
@@ -13,8 +13,8 @@ use native.Mathlib.Nat.{sub-zero, sub-self, suc-sub-suc, zero-sub}
 use native.Mathlib.Numerals.{add-one}
 use Rattle.meaning.specs.Lists.{anyOf, has}
 use Rattle.meaning.specs.Tidy.{insertNew}
-use Rattle.meaning.proofs.Basics.{by-cases, or-l, or-r, eqb-false}
 use Rattle.table.specs.Insert.{countBelow, shifted}
+use Rattle.meaning.proofs.Basics.{by-cases, or-l, or-r, eqb-false}
 
 -- The place for x ---------------------------------------------------------------------------------------------
 module _ (s : List ℕ) (x i : ℕ) (inv : countBelow s x ≡ i + countBelow (drop i s) x) where

@@ -1,23 +1,23 @@
 -- A table is laid out right, with its prefix numbers in range, exactly if it holds the formula that it decodes to.
 -- Assumes nothing.
-use Prim.Native.Nat.{ℕ, zero, suc, _+_, _-_, _≤_, _<_}
-use mathlib.Core.Path.{_≡_, refl, sym, ap, _∙_, subst}
-use mathlib.Core.Bool.{Bool, true, _&&_}
+use Prim.Native.Nat.{ℕ, zero, suc, _+_, _-_, _≤_}
+use mathlib.Core.Path.{_≡_, refl, sym, ap, _∙_}
+use mathlib.Core.Bool.{true}
 use mathlib.Core.List.{List, [], _∷_, _++_}
-use lib.ListN.{length, take, drop, replicate, length-append, length-take, length-drop, length-replicate, take-append-drop}
-use lib.Seq.{drop-drop, take-add, take-all, take-take, take-at, length-take-le, drop-append-le}
+use lib.ListN.{length, take, drop, replicate, length-drop, length-replicate, take-append-drop}
+use lib.Seq.{drop-drop, take-add, take-all, take-take, length-take-le}
 use lib.Dec.{eqb, leb}
 use borrow.Author.Tests.{eq-eqb, le-leb, eqb-true, leb-true}
 use native.Mathlib.Omega.{arith}
 use native.Mathlib.Nat.{sub-zero, zero-add}
 use Rattle.meaning.specs.Lists.{allOf}
 use Rattle.meaning.specs.Formula.{Formula, var}
-use Rattle.meaning.specs.WellFormed.{literals, fits}
+use Rattle.meaning.specs.WellFormed.{literals}
+use Rattle.table.specs.Table.{allLiterals, endsFrom, pad, tableOf, countsOf, cut, decode, Holds}
+use Rattle.table.specs.Layout.{allZero, endsUpTo, layoutOk}
+use Rattle.table.specs.declared.Counts.{Counts}
 use Rattle.meaning.proofs.Basics.{and-l, and-r, and-i}
 use Rattle.meaning.proofs.Parts.{Room, of-room}
-use Rattle.table.specs.Table.{allLiterals, endsFrom, pad, tableOf, countsOf, cut, decode, Holds}
-use Rattle.table.specs.Layout.{allZero, endsUpTo, part, layoutOk}
-use Rattle.table.specs.declared.Counts.{Counts}
 use Rattle.table.proofs.PadLaws.{length-all}
 use Rattle.table.proofs.TableLaws.{free-prefix, free-ends, free-literals, table-ends}
 use Rattle.table.proofs.HoldLaws.{room, holds-bounds, count-variables, count-clauses, count-literals}

@@ -1,18 +1,17 @@
 -- The layout by places: the loops and returns of src/layout.rt, and what the test says.
 -- Assumes nothing.
 use Prim.Native.Nat.{ℕ, _+_, _≤_, _<_}
-use mathlib.Core.Path.{_≡_, refl, sym, _∙_}
-use mathlib.Core.Bool.{Bool, true, false, _&&_}
+use mathlib.Core.Path.{_≡_, sym, _∙_}
+use mathlib.Core.Bool.{Bool, true, false}
 use mathlib.Core.List.{List}
 use lib.ListN.{length, getD, drop, drop-of-length-le}
 use lib.Seq.{drop-cons}
 use lib.Dec.{eqb, leb}
 use borrow.Author.Tests.{eq-eqb, ne-eqb, le-leb, lt-leb, eqb-true, leb-true}
 use native.Mathlib.Numerals.{add-one}
-use Rattle.meaning.specs.Lists.{allOf}
-use Rattle.meaning.proofs.Basics.{and-l, and-r, and-i}
 use Rattle.table.specs.Layout.{allZero, endsUpTo, part, layoutOk}
 use Rattle.table.specs.declared.Counts.{Counts}
+use Rattle.meaning.proofs.Basics.{and-l, and-r}
 use Rattle.table.proofs.LoopLaws.{all-fails, all-turn, all-end}
 
 -- The loops ---------------------------------------------------------------------------------------------------

@@ -18,3 +18,4 @@ pub mod LaidLaws
 pub mod GoodLaws
 pub mod CheckLaws
 pub mod LiteralLaws
+pub mod ReadyLaws

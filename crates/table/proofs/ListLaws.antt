@@ -1,8 +1,8 @@
 -- Laws of lists: parts, tails and loops that write.
 -- Assumes nothing.
 use Prim.Native.Nat.{ℕ, zero, suc, _+_, _-_, _≤_, _<_}
-use mathlib.Core.Path.{_≡_, refl, sym, ap, _∙_}
-use mathlib.Core.List.{List, [], _∷_, _++_, append-assoc, append-nil}
+use mathlib.Core.Path.{_≡_, sym, ap, _∙_}
+use mathlib.Core.List.{List, [], _∷_, _++_, append-nil}
 use lib.ListN.{length, getD, take, drop, set, replicate, length-append, length-take, length-drop, drop-of-length-le}
 use lib.Seq.{drop-cons, take-suc, set-at, append-snoc, length-take-le, take-all, take-append-add, drop-append-add, getD-append-add}
 use borrow.Rule.Slice.PartMut.{putMid}

@@ -1,21 +1,20 @@
 -- The answers of src/literals.rt.
 -- Assumes nothing.
-use Prim.Native.Nat.{ℕ, _+_, _-_, _≤_}
-use mathlib.Core.Path.{_≡_, refl, sym, ap, _∙_}
-use mathlib.Core.Bool.{Bool, true, false, _&&_, cond}
+use Prim.Native.Nat.{ℕ, _+_, _-_}
+use mathlib.Core.Path.{_≡_, sym, ap, _∙_}
+use mathlib.Core.Bool.{Bool, true, false}
 use mathlib.Core.List.{List, []}
 use lib.ListN.{length, take, drop}
-use lib.Dec.{eqb}
 use borrow.Author.Tests.{eq-eqb, ne-eqb}
 use native.Mathlib.Omega.{arith}
 use Rattle.meaning.specs.Formula.{Formula}
 use Rattle.meaning.specs.WellFormed.{wellFormed}
-use Rattle.meaning.proofs.Basics.{by-cases, and-l}
 use Rattle.table.specs.Table.{allLiterals, decode, Holds}
 use Rattle.table.specs.Check.{layoutHolds, goodTable, named, rightLengths, judged, asked, literalsGiven, literalsPart}
 use Rattle.table.specs.declared.Counts.{Counts}
 use Rattle.table.specs.declared.Asked.{Asked}
 use Rattle.table.specs.declared.Asked.the-variants.{Given, WrongLength, Malformed}
+use Rattle.meaning.proofs.Basics.{by-cases, and-l}
 use Rattle.table.proofs.HoldLaws.{literals-are}
 use Rattle.table.proofs.GoodLaws.{true-holds}
 

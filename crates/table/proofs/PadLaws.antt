@@ -8,8 +8,8 @@ use lib.Seq.{drop-cons, take-suc, drop-append-le, take-at, drop-at, set-at, appe
 use native.Mathlib.Omega.{arith}
 use native.Mathlib.Nat.{not-suc-le-zero, le-of-suc-le-suc, add-zero}
 use Rattle.meaning.specs.WellFormed.{literals}
-use Rattle.meaning.proofs.Weight.{literals-append}
 use Rattle.table.specs.Table.{allLiterals, startOf, endsFrom, pad}
+use Rattle.meaning.proofs.Weight.{literals-append}
 use Rattle.table.proofs.ListLaws.{drop-replicate}
 
 -- Padding -----------------------------------------------------------------------------------------------------

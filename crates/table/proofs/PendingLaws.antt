@@ -2,7 +2,7 @@
 -- Assumes nothing.
 use Prim.Native.Nat.{ℕ, _+_, _/_, _≤_, _<_}
 use mathlib.Core.Path.{_≡_, refl, sym, ap, _∙_}
-use mathlib.Core.Bool.{Bool, true, false, _&&_, _||_, cond}
+use mathlib.Core.Bool.{Bool, true, false}
 use mathlib.Core.List.{List, [], _∷_, _++_, append-assoc, append-nil}
 use lib.ListN.{length, getD, take}
 use lib.Seq.{take-suc, take-all, length-take-le}
@@ -12,10 +12,8 @@ use native.Mathlib.Omega.{arith}
 use native.Mathlib.Numerals.{add-one}
 use Rattle.meaning.specs.Lists.{allOf, anyOf, has}
 use Rattle.meaning.specs.Formula.{Formula, var, opposite}
-use Rattle.meaning.specs.Tidy.{insertNew, ascending, bothPhases, kept, tidySorted, tidy, addTidied, reduce}
+use Rattle.meaning.specs.Tidy.{insertNew, ascending, bothPhases, tidySorted, tidy, addTidied, reduce}
 use Rattle.meaning.specs.WellFormed.{goodPrefix}
-use Rattle.meaning.proofs.Basics.{clash, false-of, and-l, and-r, and-i}
-use Rattle.meaning.proofs.Lists.{all-snoc, any-has}
 use Rattle.table.specs.Table.{withRaw, withNewClause, Holds}
 use Rattle.table.specs.Answer.{Became}
 use Rattle.table.specs.Ranks.{small, ranksOf, reducedBy}
@@ -24,6 +22,8 @@ use Rattle.table.specs.declared.Counts.{Counts}
 use Rattle.table.specs.declared.Pending.{Pending}
 use Rattle.table.specs.declared.Pushed.{Pushed}
 use Rattle.table.specs.declared.Pushed.the-variants.{Done}
+use Rattle.meaning.proofs.Basics.{clash, and-l, and-r, and-i}
+use Rattle.meaning.proofs.Lists.{all-snoc}
 use Rattle.table.proofs.LoopLaws.{all-getD}
 use Rattle.table.proofs.AnswerLaws.{unchanged}
 use Rattle.table.proofs.ReduceLaws.{reduce-is}

@@ -14,10 +14,10 @@ use native.Mathlib.Numerals.{add-one}
 use Rattle.meaning.specs.Lists.{anyOf, allOf, upFrom}
 use Rattle.meaning.specs.Formula.{var, isVar, mentions}
 use Rattle.meaning.specs.WellFormed.{goodPrefix}
-use Rattle.meaning.proofs.Basics.{by-cases, clash, false-of, and-l, and-r, and-i, or-l, or-r, not-true, eqb-self, eqb-true, eqb-false, eqb-eq, eqb-ne}
+use Rattle.table.specs.Ranks.{rankFrom, ranksOf, rankable, goodEntries, Ranked}
+use Rattle.meaning.proofs.Basics.{by-cases, clash, false-of, and-l, and-r, and-i, or-l, or-r, not-true, eqb-self, eqb-true, eqb-false, eqb-ne}
 use Rattle.meaning.proofs.Lists.{all-append, all-snoc}
 use Rattle.meaning.proofs.Prefix.{good-snoc, good-next}
-use Rattle.table.specs.Ranks.{rankFrom, ranksOf, rankable, goodEntries, Ranked}
 
 -- Every variable has its place in the slice -------------------------------------------------------------------
 length-up : (a n : ℕ) → length (upFrom a n) ≡ n
@@ -115,7 +115,7 @@ new-rank p q ranks l h e =
     ∙ rw (lt-ltb 0 (q / 2) (omega arith), le-leb (q / 2) 1023 (omega arith))
 
 -- Ranking a whole prefix --------------------------------------------------------------------------------------
-rankable-is : (p : List ℕ) (q : ℕ) → rankable p q ≡ true → (0 < var q) × (leb (var q) 1023 ≡ true) × (mentions p (var q) ≡ false)
+pub rankable-is : (p : List ℕ) (q : ℕ) → rankable p q ≡ true → (0 < var q) × (leb (var q) 1023 ≡ true) × (mentions p (var q) ≡ false)
 unfolding rankable
 rankable-is p q h =
     let r = and-r (ltb 0 (var q)) (leb (var q) 1023 && not (mentions p (var q))) h in

@@ -2,22 +2,21 @@
 -- universal is left of the rightmost existential of the clause exactly if the clause has an existential to its right.
 -- Assumes nothing.
 use Prim.Native.Nat.{ℕ, suc, _+_, _*_, _/_, _%_, _≤_, _<_, max}
-use mathlib.Core.Path.{_≡_, refl, sym, ap, ap₂, _∙_, subst}
+use mathlib.Core.Path.{_≡_, refl, sym, ap, _∙_, subst}
 use mathlib.Core.Bool.{Bool, true, false, _&&_, _||_, not, cond}
 use mathlib.Core.List.{List, [], _∷_}
-use lib.ListN.{getD}
-use lib.Dec.{eqb, ltb, leb}
+use lib.Dec.{eqb, ltb}
 use borrow.Author.Tests.{lt-ltb, le-ltb, ltb-true, ltb-false, leb-true}
 use native.Mathlib.Omega.{arith}
 use Rattle.meaning.specs.Lists.{anyOf, allOf, keepIf, has}
 use Rattle.meaning.specs.Formula.{var, odd, isVar, mentions, existential, universal, rightOf, anyExist}
 use Rattle.meaning.specs.Tidy.{stays, reduce}
 use Rattle.meaning.specs.WellFormed.{goodPrefix, reduced}
-use Rattle.meaning.proofs.Basics.{by-cases, iff, false-of, clash, and-l, and-r, and-i, or-l, or-r, or-il, or-ir, or-elim, not-true, eqb-self, eqb-true, eqb-eq}
+use Rattle.table.specs.Ranks.{rankFrom, ranksOf, small, rankAt, placeAt, laterBy, lastBy, staysBy, reducedBy}
+use Rattle.meaning.proofs.Basics.{by-cases, iff, false-of, clash, and-l, and-r, and-i, not-true, eqb-true, eqb-eq}
 use Rattle.meaning.proofs.Lists.{any-agree, all-agree, any-witness, any-has}
 use Rattle.meaning.proofs.Literals.{odd-is, even-is, odd-of, even-of, var-plain, odd-plain, plain-is}
 use Rattle.meaning.proofs.Prefix.{good-out, good-tail, eqb-plain, eqb-negated, forall-mentioned, not-existential, not-universal, right-mentioned}
-use Rattle.table.specs.Ranks.{rankFrom, ranksOf, small, rankAt, placeAt, laterBy, lastBy, staysBy, reducedBy}
 use Rattle.table.proofs.RankLaws.{rank-at}
 
 -- two tests that agree on a list keep the same of it

@@ -2,23 +2,23 @@
 -- Assumes nothing.
 use Prim.Native.Nat.{ℕ, _+_, _≤_, _<_}
 use mathlib.Core.Path.{_≡_, refl, sym, ap, ap₂, _∙_, subst, fun-ext}
-use mathlib.Core.Bool.{Bool, true, false, _&&_, _||_, not, cond}
+use mathlib.Core.Bool.{Bool, true, false, _&&_, _||_, not}
 use mathlib.Core.List.{List, [], _∷_, _++_}
 use lib.ListN.{length}
 use lib.Dec.{eqb, ltb, leb}
-use borrow.Author.Tests.{lt-ltb, le-ltb, ltb-true, ltb-false, le-leb, leb-true}
+use borrow.Author.Tests.{lt-ltb, le-ltb, ltb-true, ltb-false, leb-true}
 use native.Mathlib.Omega.{arith}
 use Rattle.meaning.specs.Lists.{anyOf, allOf, has}
 use Rattle.meaning.specs.Formula.{var, odd, opposite, isVar, mentions}
 use Rattle.meaning.specs.Tidy.{insertNew, ascending, bothPhases}
 use Rattle.meaning.specs.WellFormed.{goodPrefix}
-use Rattle.meaning.proofs.Basics.{by-cases, iff, clash, false-of, and-l, and-r, and-i, or-l, or-r, or-il, or-ir, or-elim, or-false, eqb-self, eqb-true, eqb-false, eqb-eq, eqb-ne, eqb-sym}
+use Rattle.table.specs.Pending.{inRange}
+use Rattle.table.specs.Ranks.{small}
+use Rattle.meaning.proofs.Basics.{by-cases, iff, clash, false-of, and-l, and-r, and-i, or-l, or-r, or-il, or-ir, or-elim, or-false, eqb-self, eqb-true, eqb-ne, eqb-sym}
 use Rattle.meaning.proofs.Lists.{any-append, any-has, any-witness, any-le, all-has, all-of-has, any-ascending, any-insert, all-le}
 use Rattle.meaning.proofs.Literals.{lit-path, var-opp, odd-opp, opp-opp}
 use Rattle.meaning.proofs.Ascends.{opp-differs}
 use Rattle.meaning.proofs.Prefix.{good-out, good-tail, prefix-few}
-use Rattle.table.specs.Pending.{inRange}
-use Rattle.table.specs.Ranks.{small}
 
 -- Insertions in any order -------------------------------------------------------------------------------------
 insert-twice : (a : ℕ) (c : List ℕ) → insertNew a (insertNew a c) ≡ insertNew a c

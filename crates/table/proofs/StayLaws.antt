@@ -1,8 +1,8 @@
 -- The loops and tests of src/reduce.rt, by their definitions in specs/Ranks.antt.
 -- Assumes nothing.
-use Prim.Native.Nat.{ℕ, _+_, _/_, _%_, _≤_, _<_, max}
+use Prim.Native.Nat.{ℕ, _+_, _/_, _%_, _≤_, _<_}
 use mathlib.Core.Path.{_≡_, refl, sym, ap, _∙_}
-use mathlib.Core.Bool.{Bool, true, false, cond}
+use mathlib.Core.Bool.{true, false}
 use mathlib.Core.List.{List}
 use lib.ListN.{length, getD, take, drop, drop-of-length-le}
 use lib.Seq.{drop-cons}
@@ -12,8 +12,8 @@ use native.Mathlib.Omega.{arith}
 use native.Mathlib.Numerals.{add-one}
 use Rattle.meaning.specs.Lists.{allOf, keepIf}
 use Rattle.meaning.specs.Formula.{var, odd}
-use Rattle.meaning.proofs.Literals.{odd-of, even-of}
 use Rattle.table.specs.Ranks.{small, rankAt, placeAt, laterBy, lastBy, staysBy, reducedBy}
+use Rattle.meaning.proofs.Literals.{odd-of, even-of}
 use Rattle.table.proofs.LoopLaws.{all-getD}
 use Rattle.table.proofs.CompactLaws.{Compacted, compacted-end}
 

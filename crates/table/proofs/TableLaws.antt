@@ -1,6 +1,6 @@
 -- The table of a formula: its length, its parts, and what stands in it.
 -- Assumes nothing.
-use Prim.Native.Nat.{ℕ, suc, _+_, _-_, _≤_, _<_}
+use Prim.Native.Nat.{ℕ, suc, _+_, _-_, _<_}
 use mathlib.Core.Path.{_≡_, refl, sym, ap, _∙_}
 use mathlib.Core.List.{List, [], _∷_, _++_, append-assoc}
 use lib.ListN.{length, getD, take, drop, set, replicate, length-append, replicate-append-replicate, List·getD-append}
@@ -9,8 +9,8 @@ use native.Mathlib.Omega.{arith}
 use native.Mathlib.Nat.{zero-add}
 use Rattle.meaning.specs.Formula.{Formula}
 use Rattle.meaning.specs.WellFormed.{literals}
-use Rattle.meaning.proofs.Parts.{Room}
 use Rattle.table.specs.Table.{allLiterals, startOf, endsFrom, pad, tableOf, withClause, withVariable, emptyFormula}
+use Rattle.meaning.proofs.Parts.{Room}
 use Rattle.table.proofs.ListLaws.{take-skip, drop-skip, getD-skip, set-skip}
 use Rattle.table.proofs.PadLaws.{length-pad, pad-set, pad-take, pad-drop, pad-free, pad-write, pad-at, pad-drop-le, length-ends, length-all, all-snoc, all-at, ends-snoc, ends-at, start-within, start-drop}
 

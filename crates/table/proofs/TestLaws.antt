@@ -10,7 +10,7 @@ use lib.Dec.{eqb}
 use native.Mathlib.Numerals.{add-one}
 use native.Mathlib.Omega.{arith}
 use Rattle.meaning.specs.Lists.{has, partOf, same}
-use Rattle.meaning.specs.Formula.{odd, opposite}
+use Rattle.meaning.specs.Formula.{opposite}
 use Rattle.meaning.proofs.Basics.{eqb-eq, eqb-ne}
 use Rattle.meaning.proofs.Literals.{odd-of, even-of}
 use Rattle.table.proofs.LoopLaws.{any-found, any-turn, any-end, all-fails, all-turn, all-end}

@@ -1,7 +1,7 @@
 -- Which tables are refused as MALFORMED, and the literals of a table (document 01, "Table and limits", "Numbers given back").
 -- Assumes nothing.
 use Prim.Native.Nat.{ℕ}
-use mathlib.Core.Bool.{Bool, true, false, _&&_, cond}
+use mathlib.Core.Bool.{Bool, _&&_, cond}
 use mathlib.Core.List.{List, []}
 use lib.Dec.{eqb}
 use lib.ListN.{length}

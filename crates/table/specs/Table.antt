@@ -2,10 +2,9 @@
 -- Assumes nothing.
 use mathlib.Core.Path.{_≡_}
 use Prim.Native.Nat.{ℕ, _+_, _-_}
-use mathlib.Core.Bool.{Bool, true, cond}
+use mathlib.Core.Bool.{Bool, true}
 use mathlib.Core.List.{List, [], _∷_, _++_}
 use lib.ListN.{length, take, drop, replicate}
-use Rattle.meaning.specs.Lists.{anyOf, same}
 use Rattle.meaning.specs.Formula.{Formula}
 use Rattle.meaning.specs.Tidy.{kept, tidy, addTidied}
 use Rattle.meaning.specs.WellFormed.{literals, fits, maxVariables, maxClauses, maxLiterals}

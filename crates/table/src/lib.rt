@@ -27,6 +27,7 @@ pub use literals::literals_part;
 pub use parts::clause_at;
 pub use parts::is_present;
 pub use ranks::add_rank;
+pub use ranks::is_new;
 pub use ranks::rank_prefix;
 pub use raw::add_raw;
 pub use raw::close_clause;

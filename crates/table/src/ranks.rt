@@ -26,7 +26,7 @@ fn no_ranks(ranks: &mut [u16])
 }
 
 // Whether the entry may be added: its variable is 1 to 1,023 and has no rank.
-fn is_new(ranks: &[u16], entry: u16) -> bool
+pub fn is_new(ranks: &[u16], entry: u16) -> bool
     requires { ⌜ length (now ranks) ≡ 1024 ⌝ }
     ensures { λ r. ⌜ ((p : List ℕ) → now (ranks .entry) ≡ ranksOf p → r ≡ rankable p entry) ⌝ }
 {

@@ -34,16 +34,22 @@ is-after-requires : tie.Need-is-after-requires Inv-loop μ-loop
 is-after-requires c κs = (c .before .before .before .before .before .pre, omega arith)
 
 returns : tie.Need-returns Inv-loop μ-loop
-returns c = let l = c .before .before .before .before .before in λ φ h. differ-fails (φ .clauses) (l .loop .i) (l .loop .inv .1 φ h) (omega (arith, count-clauses h)) _ (c .before .is-after .ensures φ h ∙ ap (λ (x : List ℕ). anyOf (same x) (drop (l .loop .i + 1) (φ .clauses))) (c .before .before .clause-at .ensures φ h)) (c .if2 .taken)
+returns c =
+    let l = c .before .before .before .before .before in
+    λ φ h. differ-fails (φ .clauses) (l .loop .i) (l .loop .inv .1 φ h) (omega (arith, count-clauses h)) _ (c .before .is-after .ensures φ h ∙ ap (λ (x : List ℕ). anyOf (same x) (drop (l .loop .i + 1) (φ .clauses))) (c .before .before .clause-at .ensures φ h)) (c .if2 .taken)
 
 loop-less : tie.Need-loop-less Inv-loop μ-loop
 loop-less c = search needs
 
 loop-again : tie.Need-loop-again Inv-loop μ-loop
-loop-again c = let l = c .before .before .before .before .before in (omega arith, λ φ h. differ-turn (φ .clauses) (l .loop .i) (l .loop .inv .1 φ h) (omega (arith, count-clauses h)) _ (c .before .is-after .ensures φ h ∙ ap (λ (x : List ℕ). anyOf (same x) (drop (l .loop .i + 1) (φ .clauses))) (c .before .before .clause-at .ensures φ h)) (c .if2 .left))
+loop-again c =
+    let l = c .before .before .before .before .before in
+    (omega arith, λ φ h. differ-turn (φ .clauses) (l .loop .i) (l .loop .inv .1 φ h) (omega (arith, count-clauses h)) _ (c .before .is-after .ensures φ h ∙ ap (λ (x : List ℕ). anyOf (same x) (drop (l .loop .i + 1) (φ .clauses))) (c .before .before .clause-at .ensures φ h)) (c .if2 .left))
 
 returns-2 : tie.Need-returns-2 Inv-loop μ-loop
-returns-2 c = let l = c .before .before in λ φ h. differ-end (φ .clauses) (l .loop .i) (l .loop .inv .1 φ h) (omega (arith, count-clauses h))
+returns-2 c =
+    let l = c .before .before in
+    λ φ h. differ-end (φ .clauses) (l .loop .i) (l .loop .inv .1 φ h) (omega (arith, count-clauses h))
 
 pub all-differ-spec : {M : Type 1} → statement M
 all-differ-spec =

@@ -33,19 +33,27 @@ is-tidy-requires : tie.Need-is-tidy-requires Inv-loop μ-loop
 is-tidy-requires c κs = c .before .before .before .before .before .before .pre .1
 
 add-i : tie.Need-add-i Inv-loop μ-loop
-add-i c = let b = bounds (c .before .before .before .before .before .before .before .before .pre .0) in omega arith
+add-i c =
+    let b = bounds (c .before .before .before .before .before .before .before .before .pre .0) in
+    omega arith
 
 loop-less : tie.Need-loop-less Inv-loop μ-loop
 loop-less c = search needs
 
 loop-again : tie.Need-loop-again Inv-loop μ-loop
-loop-again c = let l = c .before .before .before .before .before in (search needs, λ φ h g e. all-turn (tidyClause (φ .prefix)) [] (φ .clauses) (l .loop .i) (l .loop .inv .1 φ h g e) (omega (arith, count-clauses h)) (ap (tidyClause (φ .prefix)) (sym (c .before .before .clause-at .ensures φ h)) ∙ sym (c .before .is-tidy .ensures (φ .prefix) g e) ∙ c .if2 .taken))
+loop-again c =
+    let l = c .before .before .before .before .before in
+    (search needs, λ φ h g e. all-turn (tidyClause (φ .prefix)) [] (φ .clauses) (l .loop .i) (l .loop .inv .1 φ h g e) (omega (arith, count-clauses h)) (ap (tidyClause (φ .prefix)) (sym (c .before .before .clause-at .ensures φ h)) ∙ sym (c .before .is-tidy .ensures (φ .prefix) g e) ∙ c .if2 .taken))
 
 returns : tie.Need-returns Inv-loop μ-loop
-returns c = let l = c .before .before .before .before .before in λ φ h g e. all-fails (tidyClause (φ .prefix)) [] (φ .clauses) (l .loop .i) (l .loop .inv .1 φ h g e) (omega (arith, count-clauses h)) (ap (tidyClause (φ .prefix)) (sym (c .before .before .clause-at .ensures φ h)) ∙ sym (c .before .is-tidy .ensures (φ .prefix) g e) ∙ c .if2 .left)
+returns c =
+    let l = c .before .before .before .before .before in
+    λ φ h g e. all-fails (tidyClause (φ .prefix)) [] (φ .clauses) (l .loop .i) (l .loop .inv .1 φ h g e) (omega (arith, count-clauses h)) (ap (tidyClause (φ .prefix)) (sym (c .before .before .clause-at .ensures φ h)) ∙ sym (c .before .is-tidy .ensures (φ .prefix) g e) ∙ c .if2 .left)
 
 returns-2 : tie.Need-returns-2 Inv-loop μ-loop
-returns-2 c = let l = c .before .before in λ φ h g e. all-end (tidyClause (φ .prefix)) [] (φ .clauses) (l .loop .i) (l .loop .inv .1 φ h g e) (omega (arith, count-clauses h))
+returns-2 c =
+    let l = c .before .before in
+    λ φ h g e. all-end (tidyClause (φ .prefix)) [] (φ .clauses) (l .loop .i) (l .loop .inv .1 φ h g e) (omega (arith, count-clauses h))
 
 pub all-tidy-spec : {M : Type 1} → statement M
 all-tidy-spec =

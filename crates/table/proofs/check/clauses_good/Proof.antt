@@ -11,7 +11,9 @@ all-differ-requires : tie.Need-all-differ-requires
 all-differ-requires c κs = search needs
 
 returns : tie.Need-returns
-returns c = let a = c .before .before in λ φ h g e. rw (← a .all-tidy .ensures φ h g e, c .before .if1 .taken) (c .all-differ .ensures φ h)
+returns c =
+    let a = c .before .before in
+    λ φ h g e. rw (← a .all-tidy .ensures φ h g e, c .before .if1 .taken) (c .all-differ .ensures φ h)
 
 returns-2 : tie.Need-returns-2
 returns-2 c = λ φ h g e. rw (← c .before .all-tidy .ensures φ h g e, c .if1 .left)

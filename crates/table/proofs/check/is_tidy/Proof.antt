@@ -13,13 +13,22 @@ all-ranked-requires : tie.Need-all-ranked-requires
 all-ranked-requires c κs = search needs
 
 all-stay-requires : tie.Need-all-stay-requires
-all-stay-requires c κs = let a = c .before in let s = a .before .before .before .before .before in (s .pre, ranked-small-all _ _ (sym (a .all-ranked .ensures) ∙ c .if2 .taken))
+all-stay-requires c κs =
+    let a = c .before in
+    let s = a .before .before .before .before .before in
+    (s .pre, ranked-small-all _ _ (sym (a .all-ranked .ensures) ∙ c .if2 .taken))
 
 returns : tie.Need-returns
-returns c = let a = c .before .before in let r = a .before .before in λ p g e. tidy-tells p g _ _ e (sym (r .rises .ensures) ∙ a .before .if1 .taken) (sym (a .all-ranked .ensures) ∙ c .before .if2 .taken) _ (c .all-stay .ensures)
+returns c =
+    let a = c .before .before in
+    let r = a .before .before in
+    λ p g e. tidy-tells p g _ _ e (sym (r .rises .ensures) ∙ a .before .if1 .taken) (sym (a .all-ranked .ensures) ∙ c .before .if2 .taken) _ (c .all-stay .ensures)
 
 returns-2 : tie.Need-returns-2
-returns-2 c = let a = c .before in let r = a .before .before in λ p g e. tidy-unbound p g _ _ e (sym (r .rises .ensures) ∙ a .before .if1 .taken) (sym (a .all-ranked .ensures) ∙ c .if2 .left)
+returns-2 c =
+    let a = c .before in
+    let r = a .before .before in
+    λ p g e. tidy-unbound p g _ _ e (sym (r .rises .ensures) ∙ a .before .if1 .taken) (sym (a .all-ranked .ensures) ∙ c .if2 .left)
 
 returns-3 : tie.Need-returns-3
 returns-3 c = λ p g e. tidy-falls p g _ _ e (sym (c .before .rises .ensures) ∙ c .if1 .left)

@@ -22,7 +22,9 @@ same-length-2 : tie.Need-same-length-2
 same-length-2 c = search needs
 
 returns-2 : tie.Need-returns-2
-returns-2 c = let e = c .before .before .before .before in λ φ h. add-new h _ _ _ (sym (e .before .is-present .ensures φ h) ∙ e .if1 .left) (c .before .before .push-clause .ensures φ h)
+returns-2 c =
+    let e = c .before .before .before .before in
+    λ φ h. add-new h _ _ _ (sym (e .before .is-present .ensures φ h) ∙ e .if1 .left) (c .before .before .push-clause .ensures φ h)
 
 pub add-clause-spec : {M : Type 1} → statement M
 add-clause-spec =

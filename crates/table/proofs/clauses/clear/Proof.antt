@@ -32,13 +32,17 @@ loop-less : tie.Need-loop-less Inv-loop μ-loop
 loop-less c = search needs
 
 loop-again : tie.Need-loop-again Inv-loop μ-loop
-loop-again c = let l = c .before in (omega arith, simp length-set (l .loop .inv .1), fill-turn _ _ (l .loop .i) (l .loop .inv .2) (omega arith))
+loop-again c =
+    let l = c .before in
+    (omega arith, simp length-set (l .loop .inv .1), fill-turn _ _ (l .loop .i) (l .loop .inv .2) (omega arith))
 
 same-length : tie.Need-same-length Inv-loop μ-loop
 same-length c = search needs
 
 returns : tie.Need-returns Inv-loop μ-loop
-returns c = let l = c .before in fill-end _ _ (l .loop .i) (length (l .before .args .s .now)) (l .loop .inv .2) (omega arith) (omega arith)
+returns c =
+    let l = c .before in
+    fill-end _ _ (l .loop .i) (length (l .before .args .s .now)) (l .loop .inv .2) (omega arith) (omega arith)
 
 pub clear-spec : {M : Type 1} → statement M
 clear-spec =

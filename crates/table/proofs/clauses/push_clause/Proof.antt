@@ -35,7 +35,9 @@ part-write-clause-end : tie.Need-part-write-clause-end
 part-write-clause-end c = search needs
 
 write-clause-requires : tie.Need-write-clause-requires
-write-clause-requires c κs = let b = bounds (c .before .before .before .before .before .pre) in simp (length-take, length-drop) (omega arith)
+write-clause-requires c κs =
+    let b = bounds (c .before .before .before .before .before .pre) in
+    simp (length-take, length-drop) (omega arith)
 
 add-e : tie.Need-add-e
 add-e c = search needs
@@ -44,22 +46,34 @@ add-t : tie.Need-add-t
 add-t c = search needs
 
 cast-t : tie.Need-cast-t
-cast-t c = let b = bounds (c .before .before .before .before .before .before .before .before .pre) in omega arith
+cast-t c =
+    let b = bounds (c .before .before .before .before .before .before .before .before .pre) in
+    omega arith
 
 mul-t : tie.Need-mul-t
 mul-t c = search needs
 
 slice-write-t : tie.Need-slice-write-t
-slice-write-t c = let s = c .before .before .before .before .before .before .before .before in let b = bounds (s .pre) in let at = 3070 + s .args .c .literals in let t = s .args .t .now in omega (arith, same-len-mid at (length t - at) t (c .before .before .write-clause .last .0) (c .before .before .write-clause .kept .0))
+slice-write-t c =
+    let s = c .before .before .before .before .before .before .before .before in
+    let b = bounds (s .pre) in
+    let at = 3070 + s .args .c .literals in
+    let t = s .args .t .now in
+    omega (arith, same-len-mid at (length t - at) t (c .before .before .write-clause .last .0) (c .before .before .write-clause .kept .0))
 
 with-clause-requires : tie.Need-with-clause-requires
-with-clause-requires c κs = let b = bounds (c .before .before .before .before .before .before .before .before .pre) in omega arith
+with-clause-requires c κs =
+    let b = bounds (c .before .before .before .before .before .before .before .before .pre) in
+    omega arith
 
 same-length : tie.Need-same-length
 same-length c = search needs
 
 returns-3 : tie.Need-returns-3
-returns-3 c = let s = c .before .before .before .before .before .before .before .before .before in let b = bounds (s .pre) in λ φ h. done-lent h _ (c .before .before .before .write-clause .last .0) _ (omega arith) (omega arith) (c .before .before .before .write-clause .ensures) (c .with-clause .ensures)
+returns-3 c =
+    let s = c .before .before .before .before .before .before .before .before .before in
+    let b = bounds (s .pre) in
+    λ φ h. done-lent h _ (c .before .before .before .write-clause .last .0) _ (omega arith) (omega arith) (c .before .before .before .write-clause .ensures) (c .with-clause .ensures)
 
 pub push-clause-spec : {M : Type 1} → statement M
 push-clause-spec =

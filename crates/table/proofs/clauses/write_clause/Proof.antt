@@ -38,7 +38,9 @@ loop-less : tie.Need-loop-less Inv-loop μ-loop
 loop-less c = search needs
 
 loop-again : tie.Need-loop-again Inv-loop μ-loop
-loop-again c = let l = c .before .before in (search needs, l .loop .inv .1, simp length-set (l .loop .inv .2), front-turn _ _ _ _ (l .loop .inv .3) (omega arith) (omega arith))
+loop-again c =
+    let l = c .before .before in
+    (search needs, l .loop .inv .1, simp length-set (l .loop .inv .2), front-turn _ _ _ _ (l .loop .inv .3) (omega arith) (omega arith))
 
 same-length : tie.Need-same-length Inv-loop μ-loop
 same-length c = search needs

@@ -37,13 +37,18 @@ loop-less : tie.Need-loop-less Inv-loop μ-loop
 loop-less c = omega arith
 
 loop-again : tie.Need-loop-again Inv-loop μ-loop
-loop-again c = let l = c .before .before in (omega arith, omega arith, simp length-set (l .loop .inv .2), shift-turn _ _ (l .before .args .p) _ _ (l .loop .inv .3) (omega arith) (omega arith) (omega arith))
+loop-again c =
+    let l = c .before .before in
+    (omega arith, omega arith, simp length-set (l .loop .inv .2), shift-turn _ _ (l .before .args .p) _ _ (l .loop .inv .3) (omega arith) (omega arith) (omega arith))
 
 same-length : tie.Need-same-length Inv-loop μ-loop
 same-length c = c .before .loop .inv .2
 
 returns : tie.Need-returns Inv-loop μ-loop
-returns c = let l = c .before in let e : l .loop .j ≡ l .before .args .p = omega arith in rw e at (l .loop .inv .3)
+returns c =
+    let l = c .before in
+    let e : l .loop .j ≡ l .before .args .p = omega arith in
+    rw e at (l .loop .inv .3)
 
 pub shift-in-spec : {M : Type 1} → statement M
 shift-in-spec =

@@ -28,7 +28,9 @@ cast-e : tie.Need-cast-e Inv-loop μ-loop
 cast-e c = omega (arith, c .shared-slice-known .given (c .before .before .loop .i))
 
 returns : tie.Need-returns Inv-loop μ-loop
-returns c = let l = c .before .before .before in ends-fall _ _ _ (l .loop .i) (l .loop .inv .1) (omega arith) (c .if1 .taken)
+returns c =
+    let l = c .before .before .before in
+    ends-fall _ _ _ (l .loop .i) (l .loop .inv .1) (omega arith) (c .if1 .taken)
 
 add-i : tie.Need-add-i Inv-loop μ-loop
 add-i c = omega arith
@@ -37,7 +39,9 @@ loop-less : tie.Need-loop-less Inv-loop μ-loop
 loop-less c = omega arith
 
 loop-again : tie.Need-loop-again Inv-loop μ-loop
-loop-again c = let l = c .before .before .before in (omega arith, ends-turn _ _ _ (l .loop .i) (l .loop .inv .1) (omega arith) (c .if1 .left))
+loop-again c =
+    let l = c .before .before .before in
+    (omega arith, ends-turn _ _ _ (l .loop .i) (l .loop .inv .1) (omega arith) (c .if1 .left))
 
 returns-2 : tie.Need-returns-2 Inv-loop μ-loop
 returns-2 c = ends-end _ _ _ (c .before .loop .i) (c .before .loop .inv .1) (omega arith)

@@ -85,16 +85,34 @@ ends-up-to-requires : tie.Need-ends-up-to-requires
 ends-up-to-requires c κs = search needs
 
 returns-5 : tie.Need-returns-5
-returns-5 c = let f = c .before .before in let d = f .before in let b = d .before .before .before in let a = b .before .before .before in let e = a .before .before in ends-tell _ _ (e .before .before .before .if1 .left) (e .before .before .if2 .left) (e .before .if3 .left) (e .if4 .left) (sym (a .all-zero .ensures) ∙ b .before .before .if5 .taken) (sym (b .all-zero2 .ensures) ∙ d .before .before .if6 .taken) (sym (d .all-zero3 .ensures) ∙ f .if7 .taken) _ (c .ends-up-to .ensures)
+returns-5 c =
+    let f = c .before .before in
+    let d = f .before in
+    let b = d .before .before .before in
+    let a = b .before .before .before in
+    let e = a .before .before in
+    ends-tell _ _ (e .before .before .before .if1 .left) (e .before .before .if2 .left) (e .before .if3 .left) (e .if4 .left) (sym (a .all-zero .ensures) ∙ b .before .before .if5 .taken) (sym (b .all-zero2 .ensures) ∙ d .before .before .if6 .taken) (sym (d .all-zero3 .ensures) ∙ f .if7 .taken) _ (c .ends-up-to .ensures)
 
 returns-6 : tie.Need-returns-6
-returns-6 c = let d = c .before in let b = d .before .before .before in let a = b .before .before .before in let e = a .before .before in not-zero-3 _ _ (e .before .before .before .if1 .left) (e .before .before .if2 .left) (e .before .if3 .left) (e .if4 .left) (sym (a .all-zero .ensures) ∙ b .before .before .if5 .taken) (sym (b .all-zero2 .ensures) ∙ d .before .before .if6 .taken) (sym (d .all-zero3 .ensures) ∙ c .if7 .left)
+returns-6 c =
+    let d = c .before in
+    let b = d .before .before .before in
+    let a = b .before .before .before in
+    let e = a .before .before in
+    not-zero-3 _ _ (e .before .before .before .if1 .left) (e .before .before .if2 .left) (e .before .if3 .left) (e .if4 .left) (sym (a .all-zero .ensures) ∙ b .before .before .if5 .taken) (sym (b .all-zero2 .ensures) ∙ d .before .before .if6 .taken) (sym (d .all-zero3 .ensures) ∙ c .if7 .left)
 
 returns-7 : tie.Need-returns-7
-returns-7 c = let b = c .before in let a = b .before .before .before in let e = a .before .before in not-zero-2 _ _ (e .before .before .before .if1 .left) (e .before .before .if2 .left) (e .before .if3 .left) (e .if4 .left) (sym (a .all-zero .ensures) ∙ b .before .before .if5 .taken) (sym (b .all-zero2 .ensures) ∙ c .if6 .left)
+returns-7 c =
+    let b = c .before in
+    let a = b .before .before .before in
+    let e = a .before .before in
+    not-zero-2 _ _ (e .before .before .before .if1 .left) (e .before .before .if2 .left) (e .before .if3 .left) (e .if4 .left) (sym (a .all-zero .ensures) ∙ b .before .before .if5 .taken) (sym (b .all-zero2 .ensures) ∙ c .if6 .left)
 
 returns-8 : tie.Need-returns-8
-returns-8 c = let a = c .before in let e = a .before .before in not-zero-1 _ _ (e .before .before .before .if1 .left) (e .before .before .if2 .left) (e .before .if3 .left) (e .if4 .left) (sym (a .all-zero .ensures) ∙ c .if5 .left)
+returns-8 c =
+    let a = c .before in
+    let e = a .before .before in
+    not-zero-1 _ _ (e .before .before .before .if1 .left) (e .before .before .if2 .left) (e .before .if3 .left) (e .if4 .left) (sym (a .all-zero .ensures) ∙ c .if5 .left)
 
 pub layout-ok-spec : {M : Type 1} → statement M
 layout-ok-spec =

@@ -15,13 +15,17 @@ judge-requires : tie.Need-judge-requires
 judge-requires c κs = search needs
 
 returns-3 : tie.Need-returns-3
-returns-3 c = let e = c .before .before in asked-is _ _ _ (e .before .if1 .left) (e .if2 .left) _ (named-second _ _ _ (c .before .if3 .taken)) _ (c .judge .ensures)
+returns-3 c =
+    let e = c .before .before in
+    asked-is _ _ _ (e .before .if1 .left) (e .if2 .left) _ (named-second _ _ _ (c .before .if3 .taken)) _ (c .judge .ensures)
 
 judge-requires-2 : tie.Need-judge-requires-2
 judge-requires-2 c κs = search needs
 
 returns-4 : tie.Need-returns-4
-returns-4 c = let e = c .before .before in asked-is _ _ _ (e .before .if1 .left) (e .if2 .left) _ (named-first _ _ _ (c .before .if3 .left)) _ (c .judge2 .ensures)
+returns-4 c =
+    let e = c .before .before in
+    asked-is _ _ _ (e .before .if1 .left) (e .if2 .left) _ (named-first _ _ _ (c .before .if3 .left)) _ (c .judge2 .ensures)
 
 pub literals-answer-spec : {M : Type 1} → statement M
 literals-answer-spec =

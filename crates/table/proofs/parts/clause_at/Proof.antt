@@ -38,7 +38,9 @@ part-result-end : tie.Need-part-result-end
 part-result-end c = let w = within c in omega arith
 
 returns : tie.Need-returns
-returns c = let s = c .before .before .before .before in λ φ h. clause-is h (s .args .i) _ _ (s .pre .1) (c .before .before .start-of .ensures φ h) (c .before .start-of2 .ensures φ h)
+returns c =
+    let s = c .before .before .before .before in
+    λ φ h. clause-is h (s .args .i) _ _ (s .pre .1) (c .before .before .start-of .ensures φ h) (c .before .start-of2 .ensures φ h)
 
 pub clause-at-spec : {M : Type 1} → statement M
 clause-at-spec =

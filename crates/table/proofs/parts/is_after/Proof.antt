@@ -30,19 +30,27 @@ equal-requires : tie.Need-equal-requires Inv-loop μ-loop
 equal-requires c κs = search needs
 
 returns : tie.Need-returns Inv-loop μ-loop
-returns c = let l = c .before .before .before .before .before in λ φ h. any-found (same _) [] (φ .clauses) (l .loop .i) (l .loop .inv .1 φ h) (omega (arith, count-clauses h)) (ap (same _) (sym (c .before .before .clause-at .ensures φ h)) ∙ sym (c .before .equal .ensures) ∙ c .if2 .taken)
+returns c =
+    let l = c .before .before .before .before .before in
+    λ φ h. any-found (same _) [] (φ .clauses) (l .loop .i) (l .loop .inv .1 φ h) (omega (arith, count-clauses h)) (ap (same _) (sym (c .before .before .clause-at .ensures φ h)) ∙ sym (c .before .equal .ensures) ∙ c .if2 .taken)
 
 add-i : tie.Need-add-i Inv-loop μ-loop
-add-i c = let b = bounds (c .before .before .before .before .before .before .before .before .pre .0) in omega arith
+add-i c =
+    let b = bounds (c .before .before .before .before .before .before .before .before .pre .0) in
+    omega arith
 
 loop-less : tie.Need-loop-less Inv-loop μ-loop
 loop-less c = search needs
 
 loop-again : tie.Need-loop-again Inv-loop μ-loop
-loop-again c = let l = c .before .before .before .before .before in (search needs, λ φ h. any-turn (same _) [] (φ .clauses) (l .loop .i) (l .loop .inv .1 φ h) (omega (arith, count-clauses h)) (ap (same _) (sym (c .before .before .clause-at .ensures φ h)) ∙ sym (c .before .equal .ensures) ∙ c .if2 .left))
+loop-again c =
+    let l = c .before .before .before .before .before in
+    (search needs, λ φ h. any-turn (same _) [] (φ .clauses) (l .loop .i) (l .loop .inv .1 φ h) (omega (arith, count-clauses h)) (ap (same _) (sym (c .before .before .clause-at .ensures φ h)) ∙ sym (c .before .equal .ensures) ∙ c .if2 .left))
 
 returns-2 : tie.Need-returns-2 Inv-loop μ-loop
-returns-2 c = let l = c .before .before in λ φ h. any-end (same _) [] (φ .clauses) (l .loop .i) (l .loop .inv .1 φ h) (omega (arith, count-clauses h))
+returns-2 c =
+    let l = c .before .before in
+    λ φ h. any-end (same _) [] (φ .clauses) (l .loop .i) (l .loop .inv .1 φ h) (omega (arith, count-clauses h))
 
 pub is-after-spec : {M : Type 1} → statement M
 is-after-spec =

@@ -19,7 +19,9 @@ abbrev μ-loop : tie.MeasureT-loop
 μ-loop scratch₀ clause q₀ i₀ scratch q i = length clause - i
 
 loop-holds : tie.Need-loop-holds Inv-loop μ-loop
-loop-holds c = let s = c .before .before in (omega arith, refl, s .pre .1, λ raw h. put-start raw (s .args .clause .now) _ _ h, s .pre .0)
+loop-holds c =
+    let s = c .before .before in
+    (omega arith, refl, s .pre .1, λ raw h. put-start raw (s .args .clause .now) _ _ h, s .pre .0)
 
 mul-put-literal : tie.Need-mul-put-literal Inv-loop μ-loop
 mul-put-literal c = omega arith
@@ -28,7 +30,9 @@ shared-slice-read-put-literal : tie.Need-shared-slice-read-put-literal Inv-loop 
 shared-slice-read-put-literal c = omega arith
 
 put-literal-requires : tie.Need-put-literal-requires Inv-loop μ-loop
-put-literal-requires c κs = let l = c .before .before .before in (l .loop .inv .4, range-at _ (l .loop .i) (l .loop .inv .2) (omega arith))
+put-literal-requires c κs =
+    let l = c .before .before .before in
+    (l .loop .inv .4, range-at _ (l .loop .i) (l .loop .inv .2) (omega arith))
 
 add-i : tie.Need-add-i Inv-loop μ-loop
 add-i c = omega arith
@@ -37,13 +41,18 @@ loop-less : tie.Need-loop-less Inv-loop μ-loop
 loop-less c = omega arith
 
 loop-again : tie.Need-loop-again Inv-loop μ-loop
-loop-again c = let p = c .before .before in let l = p .before .before .before .before in (omega arith, p .put-literal .kept .0 ∙ l .loop .inv .1, l .loop .inv .2, λ raw h. put-turn raw _ (l .loop .i) _ _ (omega arith) (p .put-literal .ensures _ (l .loop .inv .3 raw h)), pended (p .put-literal .ensures _ (l .loop .inv .4 .pends)))
+loop-again c =
+    let p = c .before .before in
+    let l = p .before .before .before .before in
+    (omega arith, p .put-literal .kept .0 ∙ l .loop .inv .1, l .loop .inv .2, λ raw h. put-turn raw _ (l .loop .i) _ _ (omega arith) (p .put-literal .ensures _ (l .loop .inv .3 raw h)), pended (p .put-literal .ensures _ (l .loop .inv .4 .pends)))
 
 same-length : tie.Need-same-length Inv-loop μ-loop
 same-length c = c .before .loop .inv .1
 
 returns : tie.Need-returns Inv-loop μ-loop
-returns c = let l = c .before in λ raw h. put-end raw _ (l .loop .i) _ _ (omega arith) (l .loop .inv .3 raw h)
+returns c =
+    let l = c .before in
+    λ raw h. put-end raw _ (l .loop .i) _ _ (omega arith) (l .loop .inv .3 raw h)
 
 pub put-clause-spec : {M : Type 1} → statement M
 put-clause-spec =

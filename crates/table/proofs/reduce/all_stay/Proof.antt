@@ -31,7 +31,10 @@ shared-slice-read-stays-by : tie.Need-shared-slice-read-stays-by Inv-loop μ-loo
 shared-slice-read-stays-by c = omega arith
 
 stays-by-requires : tie.Need-stays-by-requires Inv-loop μ-loop
-stays-by-requires c κs = let l = c .before .before in let s = l .before .before .before .before in (s .pre .0, small-at _ (l .loop .i) (s .pre .1) (omega arith))
+stays-by-requires c κs =
+    let l = c .before .before in
+    let s = l .before .before .before .before in
+    (s .pre .0, small-at _ (l .loop .i) (s .pre .1) (omega arith))
 
 add-i : tie.Need-add-i Inv-loop μ-loop
 add-i c = omega arith
@@ -40,13 +43,19 @@ loop-less : tie.Need-loop-less Inv-loop μ-loop
 loop-less c = omega arith
 
 loop-again : tie.Need-loop-again Inv-loop μ-loop
-loop-again c = let l = c .before .before .before .before in (omega arith, all-turn (staysBy _ _) 0 _ (l .loop .i) (l .loop .inv .1) (omega arith) (sym (c .before .stays-by .ensures) ∙ c .if1 .taken), l .loop .inv .2)
+loop-again c =
+    let l = c .before .before .before .before in
+    (omega arith, all-turn (staysBy _ _) 0 _ (l .loop .i) (l .loop .inv .1) (omega arith) (sym (c .before .stays-by .ensures) ∙ c .if1 .taken), l .loop .inv .2)
 
 returns : tie.Need-returns Inv-loop μ-loop
-returns c = let l = c .before .before .before .before in rw (← l .loop .inv .2) (all-fails (staysBy _ _) 0 _ (l .loop .i) (l .loop .inv .1) (omega arith) (sym (c .before .stays-by .ensures) ∙ c .if1 .left))
+returns c =
+    let l = c .before .before .before .before in
+    rw (← l .loop .inv .2) (all-fails (staysBy _ _) 0 _ (l .loop .i) (l .loop .inv .1) (omega arith) (sym (c .before .stays-by .ensures) ∙ c .if1 .left))
 
 returns-2 : tie.Need-returns-2 Inv-loop μ-loop
-returns-2 c = let l = c .before in rw (← l .loop .inv .2) (all-end (staysBy _ _) 0 _ (l .loop .i) (l .loop .inv .1) (omega arith))
+returns-2 c =
+    let l = c .before in
+    rw (← l .loop .inv .2) (all-end (staysBy _ _) 0 _ (l .loop .i) (l .loop .inv .1) (omega arith))
 
 pub all-stay-spec : {M : Type 1} → statement M
 all-stay-spec =

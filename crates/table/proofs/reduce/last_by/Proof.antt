@@ -25,7 +25,9 @@ shared-slice-read-later : tie.Need-shared-slice-read-later Inv-loop μ-loop
 shared-slice-read-later c = omega arith
 
 later-requires : tie.Need-later-requires Inv-loop μ-loop
-later-requires c κs = let s = c .before .before .before .before .before in (s .pre .0, small-at _ (c .before .before .loop .i) (s .pre .1) (omega arith))
+later-requires c κs =
+    let s = c .before .before .before .before .before in
+    (s .pre .0, small-at _ (c .before .before .loop .i) (s .pre .1) (omega arith))
 
 add-i : tie.Need-add-i Inv-loop μ-loop
 add-i c = omega arith
@@ -34,7 +36,9 @@ loop-less : tie.Need-loop-less Inv-loop μ-loop
 loop-less c = omega arith
 
 loop-again : tie.Need-loop-again Inv-loop μ-loop
-loop-again c = let l = c .before .before .before in (omega arith, last-turn _ _ _ (l .loop .i) _ (l .loop .inv .1) (omega arith) (c .later .ensures))
+loop-again c =
+    let l = c .before .before .before in
+    (omega arith, last-turn _ _ _ (l .loop .i) _ (l .loop .inv .1) (omega arith) (c .later .ensures))
 
 returns : tie.Need-returns Inv-loop μ-loop
 returns c = last-end _ _ _ (c .before .loop .i) (c .before .loop .inv .1) (omega arith)

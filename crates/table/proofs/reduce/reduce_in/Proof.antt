@@ -21,7 +21,9 @@ slice-reshare-prefix-last-by : tie.Need-slice-reshare-prefix-last-by Inv-loop μ
 slice-reshare-prefix-last-by c = c .before .before .pre .1
 
 slice-aggregate-last-by : tie.Need-slice-aggregate-last-by Inv-loop μ-loop
-slice-aggregate-last-by c = let s = c .before .before .before in sym (length-take-le _ _ (s .pre .1))
+slice-aggregate-last-by c =
+    let s = c .before .before .before in
+    sym (length-take-le _ _ (s .pre .1))
 
 last-by-requires : tie.Need-last-by-requires Inv-loop μ-loop
 last-by-requires c κs = let s = c .before .before .before in (s .pre .0, s .pre .2)
@@ -30,37 +32,61 @@ loop-holds : tie.Need-loop-holds Inv-loop μ-loop
 loop-holds c = compacted-start _ _ _
 
 mul-l : tie.Need-mul-l Inv-loop μ-loop
-mul-l c = let s = c .before .before .before .before .before .before in omega (arith, s .pre .1, s .good .0)
+mul-l c =
+    let s = c .before .before .before .before .before .before in
+    omega (arith, s .pre .1, s .good .0)
 
 slice-read-l : tie.Need-slice-read-l Inv-loop μ-loop
-slice-read-l c = let s = c .before .before .before .before .before .before .before in omega (arith, s .pre .1)
+slice-read-l c =
+    let s = c .before .before .before .before .before .before .before in
+    omega (arith, s .pre .1)
 
 stays-by-requires : tie.Need-stays-by-requires Inv-loop μ-loop
-stays-by-requires c κs = let l = c .before .before in let s = l .before .before .before .before .before in (s .pre .0, small-below _ (compacted-all _ _ _ (s .pre .1) _ (l .loop .i) _ (l .loop .inv) (c .before .loop-test .taken) small (s .pre .2)))
+stays-by-requires c κs =
+    let l = c .before .before in
+    let s = l .before .before .before .before .before in
+    (s .pre .0, small-below _ (compacted-all _ _ _ (s .pre .1) _ (l .loop .i) _ (l .loop .inv) (c .before .loop-test .taken) small (s .pre .2)))
 
 mul-scratch : tie.Need-mul-scratch Inv-loop μ-loop
-mul-scratch c = let l = c .before .before .before .before in let s = l .before .before .before .before .before in omega (arith, s .pre .1, s .good .0, l .loop .inv .behind, l .loop .inv .long)
+mul-scratch c =
+    let l = c .before .before .before .before in
+    let s = l .before .before .before .before .before in
+    omega (arith, s .pre .1, s .good .0, l .loop .inv .behind, l .loop .inv .long)
 
 slice-write-scratch : tie.Need-slice-write-scratch Inv-loop μ-loop
-slice-write-scratch c = let l = c .before .before .before .before in let s = l .before .before .before .before .before in omega (arith, s .pre .1, l .loop .inv .behind, l .loop .inv .long)
+slice-write-scratch c =
+    let l = c .before .before .before .before in
+    let s = l .before .before .before .before .before in
+    omega (arith, s .pre .1, l .loop .inv .behind, l .loop .inv .long)
 
 add-j : tie.Need-add-j Inv-loop μ-loop
-add-j c = let l = c .before .before .before .before in let s = l .before .before .before .before .before in omega (arith, s .pre .1, s .good .0, l .loop .inv .behind)
+add-j c =
+    let l = c .before .before .before .before in
+    let s = l .before .before .before .before .before in
+    omega (arith, s .pre .1, s .good .0, l .loop .inv .behind)
 
 add-i : tie.Need-add-i Inv-loop μ-loop
-add-i c = let l = c .before .before .before .before in let s = l .before .before .before .before .before in omega (arith, s .pre .1, s .good .0)
+add-i c =
+    let l = c .before .before .before .before in
+    let s = l .before .before .before .before .before in
+    omega (arith, s .pre .1, s .good .0)
 
 loop-less : tie.Need-loop-less Inv-loop μ-loop
 loop-less c = omega arith
 
 loop-again : tie.Need-loop-again Inv-loop μ-loop
-loop-again c = let l = c .before .before .before .before in let s = l .before .before .before .before .before in ⊎-elim (λ w. rw (w .1, w .2) (compacted-keep _ _ _ (s .pre .1) _ (l .loop .i) _ (l .loop .inv) (omega arith) (sym (c .before .stays-by .ensures) ∙ w .0 .taken))) (λ w. rw (w .1, w .2) (compacted-skip _ _ _ (s .pre .1) _ (l .loop .i) _ (l .loop .inv) (omega arith) (sym (c .before .stays-by .ensures) ∙ w .0 .left))) (c .if1 .came)
+loop-again c =
+    let l = c .before .before .before .before in
+    let s = l .before .before .before .before .before in
+    ⊎-elim (λ w. rw (w .1, w .2) (compacted-keep _ _ _ (s .pre .1) _ (l .loop .i) _ (l .loop .inv) (omega arith) (sym (c .before .stays-by .ensures) ∙ w .0 .taken))) (λ w. rw (w .1, w .2) (compacted-skip _ _ _ (s .pre .1) _ (l .loop .i) _ (l .loop .inv) (omega arith) (sym (c .before .stays-by .ensures) ∙ w .0 .left))) (c .if1 .came)
 
 same-length : tie.Need-same-length Inv-loop μ-loop
 same-length c = c .before .loop .inv .long
 
 returns : tie.Need-returns Inv-loop μ-loop
-returns c = let l = c .before in (omega (arith, l .loop .inv .within, l .loop .inv .behind), reduced-end _ _ _ _ _ (l .loop .i) _ (l .loop .inv) (omega arith) (l .before .last-by .ensures))
+returns c =
+    let l = c .before in
+    (omega (arith, l .loop .inv .within, l .loop .inv .behind), reduced-end _ _ _ _ _ (l .loop .i) _ (l .loop .inv) (omega arith) (l .before .last-by .ensures))
 
 pub reduce-in-spec : {M : Type 1} → statement M
 reduce-in-spec =

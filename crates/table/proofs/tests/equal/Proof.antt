@@ -35,7 +35,9 @@ shared-slice-read-if2-2 : tie.Need-shared-slice-read-if2-2 Inv-loop μ-loop
 shared-slice-read-if2-2 c = search needs
 
 returns-2 : tie.Need-returns-2 Inv-loop μ-loop
-returns-2 c = let l = c .before .before .before .before in same-differs _ _ _ (l .loop .inv .2) (omega arith) (omega arith) (c .if2 .taken)
+returns-2 c =
+    let l = c .before .before .before .before in
+    same-differs _ _ _ (l .loop .inv .2) (omega arith) (omega arith) (c .if2 .taken)
 
 add-i : tie.Need-add-i Inv-loop μ-loop
 add-i c = search needs
@@ -44,7 +46,9 @@ loop-less : tie.Need-loop-less Inv-loop μ-loop
 loop-less c = search needs
 
 loop-again : tie.Need-loop-again Inv-loop μ-loop
-loop-again c = let l = c .before .before .before .before in (search needs, search needs, same-turn _ _ _ (l .loop .inv .2) (omega arith) (omega arith) (c .if2 .left))
+loop-again c =
+    let l = c .before .before .before .before in
+    (search needs, search needs, same-turn _ _ _ (l .loop .inv .2) (omega arith) (omega arith) (c .if2 .left))
 
 returns-3 : tie.Need-returns-3 Inv-loop μ-loop
 returns-3 c = same-end _ _ (c .before .loop .i) (c .before .loop .inv .2) (omega arith) (omega arith)

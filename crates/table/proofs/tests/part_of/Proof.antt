@@ -35,10 +35,14 @@ loop-less : tie.Need-loop-less Inv-loop μ-loop
 loop-less c = search needs
 
 loop-again : tie.Need-loop-again Inv-loop μ-loop
-loop-again c = let l = c .before .before .before .before in (search needs, part-turn _ _ _ (l .loop .inv .1) (omega arith) (sym (c .before .contains .ensures) ∙ c .if1 .taken))
+loop-again c =
+    let l = c .before .before .before .before in
+    (search needs, part-turn _ _ _ (l .loop .inv .1) (omega arith) (sym (c .before .contains .ensures) ∙ c .if1 .taken))
 
 returns : tie.Need-returns Inv-loop μ-loop
-returns c = let l = c .before .before .before .before in part-fails _ _ _ (l .loop .inv .1) (omega arith) (sym (c .before .contains .ensures) ∙ c .if1 .left)
+returns c =
+    let l = c .before .before .before .before in
+    part-fails _ _ _ (l .loop .inv .1) (omega arith) (sym (c .before .contains .ensures) ∙ c .if1 .left)
 
 returns-2 : tie.Need-returns-2 Inv-loop μ-loop
 returns-2 c = part-end _ _ (c .before .loop .i) (c .before .loop .inv .1) (omega arith)

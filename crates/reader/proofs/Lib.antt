@@ -1,0 +1,4 @@
+pub mod TrackLaws
+pub mod SeenLaws
+pub mod TurnLaws
+pub mod ReadLaws
