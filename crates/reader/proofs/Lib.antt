@@ -2,3 +2,4 @@ pub mod TrackLaws
 pub mod SeenLaws
 pub mod TurnLaws
 pub mod ReadLaws
+pub mod NumberLaws

@@ -1,5 +1,5 @@
 // The reader: a text to the work table of the formula that it writes, tidied (document 01, "Reading and writing").
-ghost use Rattle.reader.specs.Reading.{answerFor, refusal, Reads};
+ghost use Rattle.reader.specs.Reading.{answerNumber, answerFor, refusal, Reads};
 ghost use mathlib.Core.Path.{_≡_};
 use crate::turns::Outcome;
 use crate::turns::fill;
@@ -20,6 +20,25 @@ pub enum Answer {
     Unbound,
     Count,
     TooBig,
+}
+
+impl Answer {
+    // The number that document 01 gives it.
+    pub fn number(self) -> u8
+        ensures { λ r. ⌜ r ≡ answerNumber self ⌝ }
+    {
+        match self {
+            Answer::Read => 0,
+            Answer::Length => 1,
+            Answer::Syntax => 3,
+            Answer::Short => 4,
+            Answer::Range => 5,
+            Answer::Twice => 6,
+            Answer::Unbound => 7,
+            Answer::Count => 8,
+            Answer::TooBig => 9,
+        }
+    }
 }
 
 // The answer, the offset of a fault, and the counts of the formula read.

@@ -1,0 +1,9 @@
+pub mod RecipeLaws
+pub mod PrefixLaws
+pub mod BuildLaws
+pub mod RawLaws
+pub mod KindLaws
+pub mod GivenLaws
+pub mod PairLaws
+pub mod DecideLaws
+pub mod ResolveLaws

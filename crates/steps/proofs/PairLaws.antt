@@ -1,0 +1,128 @@
+-- Laws of the resolvents.
+-- Assumes nothing.
+use Prim.Native.Nat.{ℕ, suc, _+_, _*_, _≤_, _<_}
+use mathlib.Core.Path.{_≡_, refl, sym, ap, _∙_, subst}
+use mathlib.Core.Bool.{Bool, true, false, _&&_, _||_, not, cond}
+use lib.Dec.{eqb}
+use mathlib.Core.List.{List, [], _∷_, _++_}
+use lib.ListN.{length, getD, take, drop, drop-of-length-le}
+use lib.Seq.{drop-cons}
+use native.Mathlib.Numerals.{add-one}
+use Rattle.meaning.specs.Lists.{allOf, anyOf, keepIf, has, without}
+use Rattle.meaning.specs.Formula.{Formula, var, odd, plain, negated, opposite, isVar, mentions}
+use Rattle.meaning.specs.Tidy.{buildOn}
+use Rattle.rules.specs.Eliminate.{withLit, resolventsOf, resolvents}
+use Rattle.table.specs.Table.{withRaw, Holds}
+use Rattle.table.specs.Answer.{Became, Built}
+use Rattle.table.specs.Pending.{inRange}
+use Rattle.table.specs.declared.Counts.{Counts}
+use Rattle.table.specs.declared.Pushed.{Pushed}
+use Rattle.table.specs.declared.Pushed.the-variants.{Done, Full}
+use Rattle.table.proofs.HoldLaws.{prefix-is}
+use Rattle.meaning.proofs.Basics.{by-cases, and-l, and-r}
+use Rattle.meaning.proofs.Literals.{opp-plain}
+use Rattle.meaning.proofs.Prefix.{eqb-plain, eqb-negated}
+use Rattle.steps.specs.Raws.{withRaws}
+use Rattle.steps.specs.Recipe.{neither, fed}
+use Rattle.steps.specs.Pairs.{eachOf, ofPair, ofClause}
+use Rattle.steps.specs.declared.Turn.the-variants.{Drop}
+use Rattle.steps.proofs.BuildLaws.{built-of, built-there, Going, going-next, going-full, going-end}
+use Rattle.steps.proofs.KindLaws.{fed-drop}
+
+-- One pair --------------------------------------------------------------------------------------------------------
+module _ {ψ : Formula} {t : List ℕ} {d : Counts} (h : Holds ψ t d) (l : ℕ) (x y : List ℕ) (o : ℕ) (opp : o ≡ opposite l) (b : Bool) (is : b ≡ has o y) where
+  has-is : has (opposite l) y ≡ b
+  has-is = ap (λ (k : ℕ). has k y) (sym opp) ∙ sym is
+
+  pub pair-left : b ≡ false → Built (withRaws ψ (ofPair l (ψ .prefix) x y)) (d .second) (Done d) t
+  unfolding ofPair withRaws buildOn
+  pair-left n = rw (has-is, n) (built-there h)
+
+  pub pair-taken : b ≡ true → (r : Pushed) (t′ : List ℕ) → Became ψ (withRaw ψ (fed (Drop l) (take (d .variables) t) 0 x ++ fed (Drop o) (take (d .variables) t) 0 y)) (d .second) r t′ → Built (withRaws ψ (ofPair l (ψ .prefix) x y)) (d .second) r t′
+  unfolding ofPair withRaws buildOn withRaw
+  pair-taken n r t′ k =
+      rw (has-is, n)
+      (subst (λ (z : List ℕ). Built (withRaw ψ z) (d .second) r t′)
+      (ap (λ (p : List ℕ). fed (Drop l) p 0 x ++ fed (Drop o) p 0 y) (prefix-is h) ∙ ap (λ (k : ℕ). fed (Drop l) (ψ .prefix) 0 x ++ fed (Drop k) (ψ .prefix) 0 y) opp) (built-of k))
+
+-- One clause ------------------------------------------------------------------------------------------------------
+module _ (l : ℕ) (q : List ℕ) (cs : List (List ℕ)) (x : List ℕ) (b : Bool) (is : b ≡ has l x) where
+  pub clause-left : {ψ : Formula} {t : List ℕ} {d : Counts} → Holds ψ t d → b ≡ false → Built (withRaws ψ (ofClause l q cs x)) (d .second) (Done d) t
+  unfolding ofClause withRaws buildOn
+  clause-left {ψ} {t} {d} h n = rw (← is, n) (built-there h)
+
+  pub clause-taken : (ψ : Formula) (s : Bool) (r : Pushed) (t : List ℕ) → b ≡ true → Built (withRaws ψ (eachOf (ofPair l q x) cs)) s r t → Built (withRaws ψ (ofClause l q cs x)) s r t
+  unfolding ofClause
+  clause-taken ψ s r t n k = rw (← is, n) k
+
+-- All clauses -----------------------------------------------------------------------------------------------------
+module _ (f : List ℕ → List (List ℕ)) (ψ : Formula) (cs : List (List ℕ)) (b : Bool) (t : List ℕ) (e : Counts) (i : ℕ)
+    (g : Going ψ (eachOf f cs) (eachOf f (drop i cs)) b t e) where
+  pub each-end : length cs ≤ i → Built (withRaws ψ (eachOf f cs)) b (Done e) t
+  unfolding eachOf
+  each-end h = going-end ψ (eachOf f cs) (eachOf f (drop i cs)) b t e g (rw (drop-of-length-le cs {i = i} h))
+
+  module _ (h : i < length cs) (some : List (List ℕ)) (is : some ≡ f (getD cs i [])) (r : Pushed) (t′ : List ℕ) (k : Built (withRaws (g .formula) some) (e .second) r t′) where
+    split : eachOf f (drop i cs) ≡ some ++ eachOf f (drop (i + 1) cs)
+    unfolding eachOf
+    split = rw (add-one, drop-cons cs i [] h, is)
+
+    pub each-next : (e′ : Counts) → r ≡ Done e′ → Going ψ (eachOf f cs) (eachOf f (drop (i + 1) cs)) b t′ e′
+    each-next = going-next ψ (eachOf f cs) (eachOf f (drop i cs)) b t e g some (eachOf f (drop (i + 1) cs)) split r t′ k
+
+    pub each-full : r ≡ Full → Built (withRaws ψ (eachOf f cs)) b Full t′
+    each-full = going-full ψ (eachOf f cs) (eachOf f (drop i cs)) b t e g some (eachOf f (drop (i + 1) cs)) split r t′ k
+
+pub pair-as : (l : ℕ) (x c y p q : List ℕ) → p ≡ q → c ≡ y → ofPair l p x c ≡ ofPair l q x y
+pair-as l x c y p q e d = ap (λ (z : List ℕ). ofPair l z x c) e ∙ ap (ofPair l q x) d
+
+pub clause-as : (l : ℕ) (cs : List (List ℕ)) (c y p q : List ℕ) → p ≡ q → c ≡ y → ofClause l p cs c ≡ ofClause l q cs y
+clause-as l cs c y p q e d = ap (λ (z : List ℕ). ofClause l z cs c) e ∙ ap (ofClause l q cs) d
+
+-- They are document 01's resolvents -----------------------------------------------------------------------------------
+module _ (a : ℕ) (q : List ℕ) where
+  pairs-are : (x : List ℕ) (ys : List (List ℕ)) → allOf inRange x ≡ true → allOf (allOf inRange) ys ≡ true → eachOf (ofPair (plain a) q x) ys ≡ resolventsOf a x (withLit (negated a) ys)
+  unfolding eachOf ofPair withLit keepIf resolventsOf allOf
+  pairs-are x [] h k = refl
+  pairs-are x (y ∷ ys) h k =
+      rw (opp-plain a, fed-drop (plain a) q 0 x h, fed-drop (negated a) q 0 y (and-l (allOf inRange y) (allOf (allOf inRange) ys) k))
+      (go (has (negated a) y) (pairs-are x ys h (and-r (allOf inRange y) (allOf (allOf inRange) ys) k)))
+    where
+      rest : List (List ℕ)
+      rest = eachOf (ofPair (plain a) q x) ys
+
+      go : (b : Bool) → rest ≡ resolventsOf a x (withLit (negated a) ys) → cond b ((without (plain a) x ++ without (negated a) y) ∷ []) [] ++ rest ≡ resolventsOf a x (cond b (y ∷ withLit (negated a) ys) (withLit (negated a) ys))
+      go true ih = ap (λ (z : List (List ℕ)). (without (plain a) x ++ without (negated a) y) ∷ z) ih
+      go false ih = ih
+
+  pub resolvents-are : (xs ys : List (List ℕ)) → allOf (allOf inRange) xs ≡ true → allOf (allOf inRange) ys ≡ true → eachOf (ofClause (plain a) q ys) xs ≡ resolvents a (withLit (plain a) xs) (withLit (negated a) ys)
+  unfolding eachOf ofClause withLit keepIf resolvents allOf
+  resolvents-are [] ys h k = refl
+  resolvents-are (x ∷ xs) ys h k =
+      go (has (plain a) x) (pairs-are x ys (and-l (allOf inRange x) (allOf (allOf inRange) xs) h) k) (resolvents-are xs ys (and-r (allOf inRange x) (allOf (allOf inRange) xs) h) k)
+    where
+      rest : List (List ℕ)
+      rest = eachOf (ofClause (plain a) q ys) xs
+
+      go : (b : Bool) → eachOf (ofPair (plain a) q x) ys ≡ resolventsOf a x (withLit (negated a) ys) → rest ≡ resolvents a (withLit (plain a) xs) (withLit (negated a) ys)
+          → cond b (eachOf (ofPair (plain a) q x) ys) [] ++ rest ≡ resolvents a (cond b (x ∷ withLit (plain a) xs) (withLit (plain a) xs)) (withLit (negated a) ys)
+      go true e ih = rw (e, ih)
+      go false e ih = ih
+
+-- The clauses without the variable ---------------------------------------------------------------------------------
+pub free-is : (a : ℕ) (c : List ℕ) → neither (plain a) c ≡ not (mentions c a)
+unfolding neither mentions isVar anyOf has plain negated
+free-is a c = rw (opp-plain a) (go c)
+  where
+    one : (k : ℕ) (x y z : Bool) → eqb (plain a) k ≡ (eqb (var k) a && not (odd k)) → eqb (negated a) k ≡ (eqb (var k) a && odd k) → (not x && not y) ≡ not z → (not (eqb (plain a) k || x) && not (eqb (negated a) k || y)) ≡ not (eqb (var k) a || z)
+    one k x y z p q ih = rw (p, q) (turn (eqb (var k) a) (odd k) x y z ih)
+      where
+        turn : (v o x y z : Bool) → (not x && not y) ≡ not z → (not ((v && not o) || x) && not ((v && o) || y)) ≡ not (v || z)
+        turn true true true y z ih = refl
+        turn true true false y z ih = refl
+        turn true false x y z ih = refl
+        turn false o x y z ih = ih
+
+    go : (c : List ℕ) → (not (has (plain a) c) && not (has (negated a) c)) ≡ not (anyOf (λ q. eqb (var q) a) c)
+    go [] = refl
+    go (k ∷ c) = one k (has (plain a) c) (has (negated a) c) (anyOf (λ q. eqb (var q) a) c) (eqb-plain a k) (eqb-negated a k) (go c)

@@ -1,0 +1,99 @@
+-- Laws of the loop over the source's clauses.
+-- Assumes nothing.
+use Prim.Native.Nat.{ℕ, suc, _+_, _≤_, _<_}
+use mathlib.Core.Path.{_≡_, refl, sym, ap, _∙_, subst}
+use mathlib.Core.Bool.{Bool, true, false, cond}
+use mathlib.Core.List.{List, [], _∷_, _++_}
+use lib.ListN.{length, getD, take, drop, drop-of-length-le}
+use lib.Seq.{drop-cons}
+use native.Mathlib.Omega.{arith}
+use native.Mathlib.Numerals.{add-one}
+use Rattle.meaning.specs.Lists.{allOf}
+use lib.Dec.{leb}
+use Rattle.meaning.specs.Formula.{Formula, var, dropVar}
+use Rattle.meaning.specs.Tidy.{buildOn, build, tidied}
+use Rattle.meaning.proofs.Basics.{and-i}
+use Rattle.meaning.proofs.Parts.{room-of}
+use Rattle.rules.proofs.Good.{good-drop}
+use Rattle.meaning.specs.WellFormed.{goodPrefix, maxVariables}
+use Rattle.table.specs.Table.{withRaw, Holds, Held}
+use Rattle.table.specs.Answer.{Became, Built}
+use Rattle.table.specs.Ranks.{ranksOf, goodEntries, Ranked}
+use Rattle.table.specs.declared.Counts.{Counts}
+use Rattle.table.specs.declared.Pushed.{Pushed}
+use Rattle.table.specs.declared.Pushed.the-variants.{Done, Full}
+use Rattle.table.proofs.HoldLaws.{prefix-is}
+use Rattle.permits.proofs.PlaceLaws.{good-entries}
+use Rattle.steps.specs.Raws.{bare, withRaws}
+use Rattle.steps.specs.Recipe.{Ready, taken, fed, rawBy, rawsBy, remade}
+use Rattle.steps.specs.declared.Which.{Which}
+use Rattle.steps.specs.declared.Turn.{Turn}
+use Rattle.steps.proofs.BuildLaws.{built-of, built-there, built-done, Going, going-next, going-full, going-end}
+
+-- the ranks of a held formula's prefix
+module _ {ψ : Formula} {t ranks : List ℕ} {d : Counts} (h : Holds ψ t d) (r : Ready (take (d .variables) t) ranks) where
+  pub ready-good : goodPrefix (ψ .prefix) ≡ true
+  ready-good = ap goodPrefix (sym (prefix-is h)) ∙ good-entries (take (d .variables) t) (r .good)
+
+  pub ready-ranks : ranks ≡ ranksOf (ψ .prefix)
+  ready-ranks = r .ranked ∙ ap ranksOf (prefix-is h)
+
+  -- the same prefix in another table
+  pub ready-as : {χ : Formula} {t′ : List ℕ} {e : Counts} → Holds χ t′ e → χ .prefix ≡ ψ .prefix → Ready (take (e .variables) t′) ranks
+  ready-as {χ} {t′} {e} k q = subst (λ (p : List ℕ). Ready p ranks) (prefix-is h ∙ sym q ∙ sym (prefix-is k)) r
+
+-- One clause ------------------------------------------------------------------------------------------------------
+module _ (w : Which) (u : Turn) {ψ : Formula} {t : List ℕ} {d : Counts} (h : Holds ψ t d) (i : ℕ) (c : List ℕ) (b : Bool) (is : b ≡ taken w (take (d .variables) t) i c) where
+  taken-is : taken w (ψ .prefix) i c ≡ b
+  taken-is = ap (λ (p : List ℕ). taken w p i c) (sym (prefix-is h)) ∙ sym is
+
+  pub one-left : b ≡ false → Built (withRaws ψ (rawBy w u (ψ .prefix) i c)) (d .second) (Done d) t
+  unfolding rawBy withRaws buildOn
+  one-left n = rw (taken-is, n) (built-there h)
+
+  pub one-taken : b ≡ true → (r : Pushed) (t′ : List ℕ) → Became ψ (withRaw ψ (fed u (take (d .variables) t) i c)) (d .second) r t′ → Built (withRaws ψ (rawBy w u (ψ .prefix) i c)) (d .second) r t′
+  unfolding rawBy withRaws buildOn withRaw
+  one-taken n r t′ k =
+      rw (taken-is, n) (subst (λ (x : List ℕ). Built (withRaw ψ x) (d .second) r t′) (ap (λ (p : List ℕ). fed u p i c) (prefix-is h)) (built-of k))
+
+-- All clauses -----------------------------------------------------------------------------------------------------
+module _ (w : Which) (u : Turn) (ψ : Formula) (cs : List (List ℕ)) (b : Bool) (t : List ℕ) (e : Counts) (i : ℕ)
+    (g : Going ψ (rawsBy w u (ψ .prefix) 0 cs) (rawsBy w u (ψ .prefix) i (drop i cs)) b t e) where
+  pub all-end : length cs ≤ i → Built (withRaws ψ (rawsBy w u (ψ .prefix) 0 cs)) b (Done e) t
+  unfolding rawsBy
+  all-end h = going-end ψ (rawsBy w u (ψ .prefix) 0 cs) (rawsBy w u (ψ .prefix) i (drop i cs)) b t e g (rw (drop-of-length-le cs {i = i} h))
+
+  module _ (h : i < length cs) (c : List ℕ) (is : c ≡ getD cs i []) (r : Pushed) (t′ : List ℕ) (k : Built (withRaws (g .formula) (rawBy w u (g .formula .prefix) i c)) (e .second) r t′) where
+    split : rawsBy w u (ψ .prefix) i (drop i cs) ≡ rawBy w u (ψ .prefix) i c ++ rawsBy w u (ψ .prefix) (i + 1) (drop (i + 1) cs)
+    unfolding rawsBy
+    split = rw (add-one, drop-cons cs i [] h, is)
+
+    built : Built (withRaws (g .formula) (rawBy w u (ψ .prefix) i c)) (e .second) r t′
+    built = subst (λ (p : List ℕ). Built (withRaws (g .formula) (rawBy w u p i c)) (e .second) r t′) (g .prefix) k
+
+    pub all-next : (e′ : Counts) → r ≡ Done e′ → Going ψ (rawsBy w u (ψ .prefix) 0 cs) (rawsBy w u (ψ .prefix) (i + 1) (drop (i + 1) cs)) b t′ e′
+    all-next = going-next ψ (rawsBy w u (ψ .prefix) 0 cs) (rawsBy w u (ψ .prefix) i (drop i cs)) b t e g (rawBy w u (ψ .prefix) i c) (rawsBy w u (ψ .prefix) (i + 1) (drop (i + 1) cs)) split r t′ built
+
+    pub all-full : r ≡ Full → Built (withRaws ψ (rawsBy w u (ψ .prefix) 0 cs)) b Full t′
+    all-full = going-full ψ (rawsBy w u (ψ .prefix) 0 cs) (rawsBy w u (ψ .prefix) i (drop i cs)) b t e g (rawBy w u (ψ .prefix) i c) (rawsBy w u (ψ .prefix) (i + 1) (drop (i + 1) cs)) split r t′ built
+
+-- The whole ---------------------------------------------------------------------------------------------------------
+pub ranked-ready : {ψ : Formula} {t : List ℕ} {d : Counts} → Holds ψ t d → goodPrefix (ψ .prefix) ≡ true → (r : Bool) (ranks : List ℕ) → Ranked (take (d .variables) t) r ranks → Ready (take (d .variables) t) ranks
+unfolding goodEntries
+ranked-ready {ψ} {t} {d} h g r ranks k =
+    let good : goodEntries (take (d .variables) t) ≡ true =
+    ap goodEntries (prefix-is h) ∙ and-i (goodPrefix (ψ .prefix)) (allOf (λ q. leb (var q) maxVariables) (ψ .prefix)) g (room-of ψ (h .fitting) .numbers) in
+    record { good = good; ranked = k .table (k .answer ∙ good) }
+
+pub copied-good : {φ : Formula} {t : List ℕ} {c : Counts} → Holds φ t c → goodPrefix (take (c .variables) t) ≡ true → (v : ℕ) → goodPrefix (bare (dropVar v (φ .prefix)) .prefix) ≡ true
+unfolding bare
+copied-good {φ} {t} {c} h g v = good-drop v (φ .prefix) (ap goodPrefix (sym (prefix-is h)) ∙ g)
+
+pub remade-built : (w : Which) (u : Turn) (v : ℕ) (φ : Formula) (s b : Bool) (r : Pushed) (t : List ℕ) → Built (withRaws (bare (dropVar v (φ .prefix))) (rawsBy w u (bare (dropVar v (φ .prefix)) .prefix) 0 (φ .clauses))) s r t → s ≡ b → Built (tidied (remade w u v φ)) b r t
+unfolding bare withRaws tidied build remade
+remade-built w u v φ s b r t k e = rw e at k
+
+-- the ranks are still those of the prefix once raw clauses are added
+pub ready-after : {ψ : Formula} {t ranks : List ℕ} {d : Counts} → Holds ψ t d → Ready (take (d .variables) t) ranks → (raws : List (List ℕ)) (s : Bool) (r : Pushed) (t′ : List ℕ) → Built (withRaws ψ raws) s r t′ → (e : Counts) → r ≡ Done e → Ready (take (e .variables) t′) ranks
+unfolding withRaws
+ready-after {ψ} {t} {ranks} {d} h q raws s r t′ k e p = ready-as h q (built-done (withRaws ψ raws) s r t′ k e p) refl

@@ -1,0 +1,34 @@
+-- One recipe.
+-- Assumes nothing.
+use Rattle.steps.proofs.GivenLaws.{begun-rebuild, assigned}
+use mathlib.Core.Path.{refl}
+use borrow.Author.Needs.{needs}
+use Rattle.steps.proofs.kinds.assign_into.Statement.{statement}
+use Rattle.steps.proofs.kinds.assign_into.Tie as tie
+use Rattle.steps.proofs.kinds.assign_into.Reads as reads
+use Rattle.steps.proofs.kinds.assign_into.Lts as lts
+use Rattle.steps.proofs.rebuilding.rebuild.Reads as rebuild-reads
+use Rattle.steps.proofs.recipes.other.Reads as other-reads
+
+other-requires : tie.Need-other-requires
+other-requires c κs = search needs
+
+rebuild-requires : tie.Need-rebuild-requires
+rebuild-requires c κs = begun-rebuild (c .before .before .before .before .before .before .before .before .pre)
+
+same-length : tie.Need-same-length
+same-length c = search needs
+
+same-length-2 : tie.Need-same-length-2
+same-length-2 c = search needs
+
+same-length-3 : tie.Need-same-length-3
+same-length-3 c = search needs
+
+returns : tie.Need-returns
+returns c = let k = c .before .before .before .before .before .before in λ φ g. assigned g _ _ _ refl (k .before .before .before .other .ensures) (k .rebuild .ensures .0 φ (g .holds))
+
+pub assign-into-spec : {M : Type 1} → statement M
+assign-into-spec =
+    tie.close
+    (tie.spec other-requires rebuild-requires same-length same-length-2 same-length-3 returns)

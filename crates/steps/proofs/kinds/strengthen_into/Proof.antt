@@ -1,0 +1,60 @@
+-- One recipe; where the step is permitted there is a literal.
+-- Assumes nothing.
+use Rattle.steps.proofs.GivenLaws.{begun-held, begun-ranks, begun-rebuild, strengthen-made, strengthen-never}
+use borrow.Author.Needs.{needs}
+use Rattle.steps.proofs.kinds.strengthen_into.Statement.{statement}
+use Rattle.steps.proofs.kinds.strengthen_into.Tie as tie
+use Rattle.steps.proofs.kinds.strengthen_into.Reads as reads
+use Rattle.steps.proofs.kinds.strengthen_into.Lts as lts
+use Rattle.permits.proofs.strengthening_of.Reads as strengthening-of-reads
+use Rattle.steps.proofs.rebuilding.rebuild.Reads as rebuild-reads
+use Rattle.steps.proofs.recipes.other.Reads as other-reads
+
+strengthening-of-requires : tie.Need-strengthening-of-requires
+strengthening-of-requires c κs = let b = c .before .before .before .before .before .pre in (begun-held b, begun-ranks b)
+
+enum-known-l : tie.Need-enum-known-l
+enum-known-l c = search needs
+
+other-requires : tie.Need-other-requires
+other-requires c κs = search needs
+
+rebuild-requires : tie.Need-rebuild-requires
+rebuild-requires c κs = begun-rebuild (c .before .before .before .before .before .before .before .before .before .before .before .before .before .pre)
+
+enum-told : tie.Need-enum-told
+enum-told c = search needs
+
+same-length : tie.Need-same-length
+same-length c = search needs
+
+same-length-2 : tie.Need-same-length-2
+same-length-2 c = search needs
+
+same-length-3 : tie.Need-same-length-3
+same-length-3 c = search needs
+
+returns : tie.Need-returns
+returns c = let k = c .before .before .before .before .before .before in let o = k .before .before .before in let y = o .before .before .before .before .before in λ φ g p. strengthen-made φ _ _ p _ (y .strengthening-of .ensures φ (g .holds) (g .well) (g .ranked)) g _ _ (o .before .before .before .l .given .1) (o .other .ensures) (k .rebuild .ensures .0 φ (g .holds))
+
+same-length-4 : tie.Need-same-length-4
+same-length-4 c = search needs
+
+returns-2 : tie.Need-returns-2
+returns-2 c = let y = c .before .before in λ φ g p. strengthen-never φ _ _ p _ (y .strengthening-of .ensures φ (g .holds) (g .well) (g .ranked)) (c .enum-told .given .1)
+
+pub strengthen-into-spec : {M : Type 1} → statement M
+strengthen-into-spec =
+    tie.close
+    (tie.spec
+    strengthening-of-requires
+    enum-known-l
+    other-requires
+    rebuild-requires
+    enum-told
+    same-length
+    same-length-2
+    same-length-3
+    returns
+    same-length-4
+    returns-2)

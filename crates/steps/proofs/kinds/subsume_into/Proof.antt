@@ -1,0 +1,28 @@
+-- One recipe.
+-- Assumes nothing.
+use Rattle.steps.proofs.GivenLaws.{begun-rebuild, subsume-made}
+use borrow.Author.Needs.{needs}
+use Rattle.steps.proofs.kinds.subsume_into.Statement.{statement}
+use Rattle.steps.proofs.kinds.subsume_into.Tie as tie
+use Rattle.steps.proofs.kinds.subsume_into.Reads as reads
+use Rattle.steps.proofs.kinds.subsume_into.Lts as lts
+use Rattle.steps.proofs.rebuilding.rebuild.Reads as rebuild-reads
+
+rebuild-requires : tie.Need-rebuild-requires
+rebuild-requires c κs = begun-rebuild (c .before .before .before .before .before .before .before .pre)
+
+same-length : tie.Need-same-length
+same-length c = search needs
+
+same-length-2 : tie.Need-same-length-2
+same-length-2 c = search needs
+
+same-length-3 : tie.Need-same-length-3
+same-length-3 c = search needs
+
+returns : tie.Need-returns
+returns c = let k = c .before .before .before .before .before .before in λ φ g. subsume-made g _ _ (k .rebuild .ensures .0 φ (g .holds))
+
+pub subsume-into-spec : {M : Type 1} → statement M
+subsume-into-spec =
+    tie.close (tie.spec rebuild-requires same-length same-length-2 same-length-3 returns)

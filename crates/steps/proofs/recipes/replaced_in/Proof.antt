@@ -1,0 +1,27 @@
+-- By which literal it is.
+-- Assumes nothing.
+use Rattle.steps.proofs.RecipeLaws.{replace-old, replace-opposite, replace-other}
+use borrow.Author.Needs.{needs}
+use Rattle.steps.proofs.recipes.replaced_in.Statement.{statement}
+use Rattle.steps.proofs.recipes.replaced_in.Tie as tie
+use Rattle.steps.proofs.recipes.replaced_in.Reads as reads
+use Rattle.steps.proofs.recipes.replaced_in.Lts as lts
+use Rattle.steps.proofs.recipes.other.Reads as other-reads
+
+returns : tie.Need-returns
+returns c = replace-old _ _ _ (c .if1 .taken)
+
+other-requires : tie.Need-other-requires
+other-requires c κs = search needs
+
+other-requires-2 : tie.Need-other-requires-2
+other-requires-2 c κs = search needs
+
+returns-2 : tie.Need-returns-2
+returns-2 c = replace-opposite _ _ _ _ _ (c .before .before .before .if1 .left) (c .before .before .other .ensures) (c .before .if2 .taken) (c .other2 .ensures)
+
+returns-3 : tie.Need-returns-3
+returns-3 c = replace-other _ _ _ _ (c .before .before .if1 .left) (c .before .other .ensures) (c .if2 .left)
+
+pub replaced-in-spec : {M : Type 1} → statement M
+replaced-in-spec = tie.close (tie.spec returns other-requires other-requires-2 returns-2 returns-3)

@@ -1,0 +1,5 @@
+pub mod Raws
+pub mod Recipe
+pub mod Given
+pub mod Pairs
+pub mod Decide

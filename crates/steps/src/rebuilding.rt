@@ -1,0 +1,120 @@
+// The loop over the source's clauses: what becomes of each by a recipe is tidied and added to the target.
+ghost use mathlib.Core.Path.{_≡_};
+ghost use mathlib.Core.Bool.{true, not};
+ghost use lib.ListN.{length, take};
+ghost use Rattle.meaning.specs.Formula.{Formula, dropVar};
+ghost use Rattle.meaning.specs.Tidy.{tidied};
+ghost use Rattle.meaning.specs.WellFormed.{goodPrefix};
+ghost use Rattle.table.specs.Table.{emptyFormula, tableOf, Holds, Held};
+ghost use Rattle.table.specs.Answer.{Built};
+ghost use Rattle.steps.specs.Raws.{withRaws};
+ghost use Rattle.steps.specs.Recipe.{Ready, rawBy, rawsBy, remade};
+use crate::Turn;
+use crate::Which;
+use crate::prefixes::copy_prefix;
+use crate::recipes::feed;
+use crate::recipes::is_taken;
+use table::Counts;
+use table::Pending;
+use table::Pushed;
+use table::clause_at;
+use table::close_clause;
+use table::rank_prefix;
+
+// What becomes of clause i.
+fn add_one(
+    target: &mut [u16],
+    d: Counts,
+    clause: &[u16],
+    i: usize,
+    which: Which,
+    turn: Turn,
+    scratch: &mut [u16],
+    ranks: &[u16],
+) -> Pushed
+    requires { ⌜ Held (now target) d ⌝ }
+    requires { ⌜ Ready (take (d .variables) (now target)) (now ranks) ⌝ }
+    requires { ⌜ length (now scratch) ≡ 1023 ⌝ }
+    ensures { λ r. ⌜ ((ψ : Formula) → Holds ψ (now (target .entry)) d → Built (withRaws ψ (rawBy which turn (ψ .prefix) i (now (clause .entry)))) (d .second) r (now (target .exit))) ⌝ }
+{
+    if is_taken(which, ranks, i, clause) {
+        let n = d.variables;
+        let p = feed(
+            scratch,
+            Pending::empty(),
+            clause,
+            i,
+            turn,
+            &target[..n],
+            ranks,
+        );
+        return close_clause(target, d, scratch, p, ranks);
+    }
+    Pushed::Done(d)
+}
+
+// What becomes of all clauses of the source.
+pub fn add_all(
+    source: &[u16],
+    c: Counts,
+    target: &mut [u16],
+    d: Counts,
+    which: Which,
+    turn: Turn,
+    scratch: &mut [u16],
+    ranks: &[u16],
+) -> Pushed
+    requires { ⌜ Held (now source) c ⌝ }
+    requires { ⌜ Held (now target) d ⌝ }
+    requires { ⌜ Ready (take (d .variables) (now target)) (now ranks) ⌝ }
+    requires { ⌜ length (now scratch) ≡ 1023 ⌝ }
+    ensures { λ r. ⌜ ((φ ψ : Formula) → Holds φ (now (source .entry)) c → Holds ψ (now (target .entry)) d → Built (withRaws ψ (rawsBy which turn (ψ .prefix) 0 (φ .clauses))) (d .second) r (now (target .exit))) ⌝ }
+{
+    let mut e = d;
+    let mut i = 0;
+    while i < c.clauses {
+        match add_one(
+            target,
+            e,
+            clause_at(source, c, i),
+            i,
+            which,
+            turn,
+            scratch,
+            ranks,
+        ) {
+            Pushed::Done(next) => {
+                e = next;
+            }
+            Pushed::Full => {
+                return Pushed::Full;
+            }
+        }
+        i += 1;
+    }
+    Pushed::Done(e)
+}
+
+// The source's formula remade by a recipe, in a target that is all zero. Variable v is dropped; 0 is none.
+pub fn rebuild(
+    source: &[u16],
+    c: Counts,
+    v: u16,
+    target: &mut [u16],
+    which: Which,
+    turn: Turn,
+    scratch: &mut [u16],
+    ranks: &mut [u16],
+) -> Pushed
+    requires { ⌜ Held (now source) c ⌝ }
+    requires { ⌜ goodPrefix (take (c .variables) (now source)) ≡ true ⌝ }
+    requires { ⌜ now target ≡ tableOf emptyFormula ⌝ }
+    requires { ⌜ (length (now scratch) ≡ 1023) × (length (now ranks) ≡ 1024) ⌝ }
+    ensures { λ r. ⌜ ((φ : Formula) → Holds φ (now (source .entry)) c → Built (tidied (remade which turn v φ)) (not (c .second)) r (now (target .exit))) ⌝ }
+    ensures { λ r. ⌜ ((d : Counts) → r ≡ Pushed.Done d → Ready (take (d .variables) (now (target .exit))) (now (ranks .exit))) ⌝ }
+{
+    let d = copy_prefix(source, c, v, target, !c.second);
+    let n = d.variables;
+    rank_prefix(&target[..n], ranks);
+    add_all(source, c, target, d, which, turn, scratch, ranks)
+}
