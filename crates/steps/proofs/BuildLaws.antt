@@ -1,27 +1,25 @@
 -- Laws of building in order: what is built only grows, and loops that give up where it does not fit.
 -- Assumes nothing.
-use Prim.Native.Nat.{ℕ, zero, suc, _+_, _≤_, _<_}
+use Prim.Native.Nat.{ℕ, _≤_}
 use mathlib.Core.Path.{_≡_, refl, sym, ap, _∙_}
 use mathlib.Core.Bool.{Bool, true, false, cond}
 use mathlib.Core.List.{List, [], _∷_, _++_}
-use lib.ListN.{length, getD, take, drop, drop-of-length-le, length-append}
-use lib.Seq.{drop-cons}
+use lib.ListN.{length, length-append}
 use native.Mathlib.Omega.{arith}
-use native.Mathlib.Numerals.{add-one}
 use Rattle.meaning.specs.Lists.{anyOf, same}
 use Rattle.meaning.specs.Formula.{Formula}
 use Rattle.meaning.specs.Tidy.{Tidied, dropped, kept, tidy, addTidied, buildOn}
 use Rattle.meaning.specs.WellFormed.{literals, fits}
-use Rattle.meaning.proofs.Basics.{by-cases, clash, false-of}
-use Rattle.meaning.proofs.Parts.{Room, room-of, of-room}
-use Rattle.table.specs.Table.{tableOf, countsOf, withRaw, Holds, Held}
+use Rattle.table.specs.Table.{tableOf, countsOf, withRaw, Holds}
 use Rattle.table.specs.Answer.{Became, Built}
 use Rattle.table.specs.declared.Counts.{Counts}
 use Rattle.table.specs.declared.Pushed.{Pushed}
 use Rattle.table.specs.declared.Pushed.the-variants.{Done, Full}
+use Rattle.steps.specs.Raws.{withRaws}
+use Rattle.meaning.proofs.Basics.{by-cases, clash, false-of}
+use Rattle.meaning.proofs.Parts.{room-of, of-room}
 use Rattle.table.proofs.PadLaws.{literals-snoc}
 use Rattle.table.proofs.HoldLaws.{second-is, counts-second}
-use Rattle.steps.specs.Raws.{withRaws}
 
 -- Built -----------------------------------------------------------------------------------------------------------
 pub built-of : {φ ψ : Formula} {second : Bool} {r : Pushed} {t : List ℕ} → Became φ ψ second r t → Built ψ second r t

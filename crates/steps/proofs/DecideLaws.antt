@@ -1,8 +1,8 @@
 -- Strengthening is permitted where there is a literal for it.
 -- Assumes nothing.
 use Prim.Native.Nat.{ℕ}
-use mathlib.Core.Path.{_≡_, refl, sym, _∙_}
-use mathlib.Core.Bool.{Bool, true, false, cond}
+use mathlib.Core.Path.{_≡_, sym, _∙_}
+use mathlib.Core.Bool.{true, false}
 use native.Mathlib.Omega.{arith}
 use Rattle.meaning.specs.Formula.{Formula}
 use Rattle.rules.specs.Simplify.{strengthenPermitted, strengthenLit}

@@ -2,7 +2,7 @@
 -- Assumes nothing.
 use Prim.Native.Nat.{ℕ, _/_}
 use mathlib.Core.Path.{_≡_, refl, sym, ap, _∙_}
-use mathlib.Core.Bool.{Bool, true, false, _&&_, cond}
+use mathlib.Core.Bool.{Bool, true, _&&_}
 use mathlib.Core.List.{List, [], _∷_}
 use lib.ListN.{length, getD, take}
 use lib.Dec.{ltb}
@@ -10,32 +10,29 @@ use native.Mathlib.Omega.{arith}
 use Rattle.meaning.specs.Lists.{allOf}
 use Rattle.meaning.specs.Formula.{Formula, var, opposite, mentions, rightOf}
 use Rattle.meaning.specs.Tidy.{tidied}
-use Rattle.meaning.specs.WellFormed.{goodPrefix, wellFormed, fits}
-use Rattle.rules.specs.Simplify.{clauseAt, isClause, becomesTrue, unitRaw, strengthenPermitted, strengthenLit, oppositePair, equalityPermitted}
+use Rattle.meaning.specs.WellFormed.{goodPrefix}
+use Rattle.rules.specs.Simplify.{clauseAt, isClause, becomesTrue, unitRaw, strengthenLit, oppositePair, equalityPermitted}
 use Rattle.rules.specs.Entry.{unit, pure, subsume, strengthen, equality}
 use Rattle.rules.specs.Step.{permitted, rawOf, resultOf}
 use Rattle.table.specs.Table.{tableOf, emptyFormula, Held}
 use Rattle.table.specs.Answer.{Built}
 use Rattle.table.specs.Pending.{inRange}
-use Rattle.table.specs.Ranks.{ranksOf, goodEntries}
 use Rattle.table.specs.declared.Counts.{Counts}
 use Rattle.table.specs.declared.Pushed.{Pushed}
-use Rattle.table.specs.declared.Pushed.the-variants.{Done, Full}
-use Rattle.table.proofs.HoldLaws.{prefix-is, held}
-use Rattle.table.proofs.RankLaws.{length-ranks}
 use Rattle.permits.specs.Choices.{pureTrue, strengtheningOf, replacing, replacementOf}
 use Rattle.permits.specs.declared.Strengthens.{Strengthens}
 use Rattle.permits.specs.declared.Strengthens.the-variants.{By, No}
 use Rattle.permits.specs.declared.Replacement.{Replacement}
-use Rattle.permits.proofs.PlaceLaws.{entries-of}
-use Rattle.permits.proofs.PureLaws.{pure-raw}
-use Rattle.permits.proofs.EqualLaws.{equality-raw}
-use Rattle.meaning.proofs.Basics.{by-cases, clash, and-l, and-r}
-use Rattle.meaning.proofs.Parts.{good-of}
 use Rattle.steps.specs.Recipe.{remade}
 use Rattle.steps.specs.Given.{Given, Begun}
 use Rattle.steps.specs.declared.Which.the-variants.{All, But, Without}
 use Rattle.steps.specs.declared.Turn.the-variants.{Same, Drop, DropAt, Replace}
+use Rattle.table.proofs.HoldLaws.{prefix-is, held}
+use Rattle.table.proofs.RankLaws.{length-ranks}
+use Rattle.permits.proofs.PureLaws.{pure-raw}
+use Rattle.permits.proofs.EqualLaws.{equality-raw}
+use Rattle.meaning.proofs.Basics.{by-cases, clash, and-l, and-r}
+use Rattle.meaning.proofs.Parts.{good-of}
 use Rattle.steps.proofs.KindLaws.{in-range, range-opposite, range-at, remade-true, remade-but, remade-strip, remade-replace}
 
 -- What is asked of the functions below -----------------------------------------------------------------------------

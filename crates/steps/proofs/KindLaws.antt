@@ -1,29 +1,28 @@
 -- What the recipes make of a formula: the raw results of document 01's steps.
 -- Assumes nothing.
-use Prim.Native.Nat.{ℕ, zero, suc, _+_, _*_, _≤_, _<_}
-use mathlib.Core.Path.{_≡_, refl, sym, ap, _∙_, subst}
-use mathlib.Core.Bool.{Bool, true, false, _&&_, _||_, not, cond}
+use Prim.Native.Nat.{ℕ, zero, suc, _+_, _<_}
+use mathlib.Core.Path.{_≡_, refl, sym, ap, _∙_}
+use mathlib.Core.Bool.{Bool, true, false, _&&_, not, cond}
 use mathlib.Core.List.{List, [], _∷_, _++_, map}
-use lib.ListN.{length, getD}
+use lib.ListN.{getD}
 use lib.Dec.{eqb, ltb, leb}
 use borrow.Author.Tests.{eq-eqb, ne-eqb, ltb-true, le-leb}
 use native.Mathlib.Omega.{arith}
-use Rattle.meaning.specs.Lists.{allOf, anyOf, keepIf, has, without}
-use Rattle.meaning.specs.Formula.{Formula, var, odd, plain, negated, opposite, isVar, mentions, dropVar}
+use Rattle.meaning.specs.Lists.{allOf, keepIf, has, without}
+use Rattle.meaning.specs.Formula.{Formula, var, opposite, mentions, dropVar}
 use Rattle.meaning.specs.WellFormed.{goodPrefix, bound, wellFormed, fits, maxVariables}
-use Rattle.rules.specs.Simplify.{clauseAt, withoutLit, assign, becomesTrue, unitRaw, replaceAt, subsumeRaw, strengthenLit, strengthenRaw, replaceLit, replaced}
-use Rattle.rules.specs.Eliminate.{withoutVar}
+use Rattle.rules.specs.Simplify.{clauseAt, withoutLit, assign, becomesTrue, replaceAt, subsumeRaw, strengthenLit, strengthenRaw, replaceLit, replaced}
 use Rattle.table.specs.Pending.{inRange}
-use Rattle.meaning.proofs.Basics.{by-cases, false-of, and-l, and-r, and-i, eqb-sym, eqb-false, eqb-true, clash}
-use Rattle.meaning.proofs.Lists.{all-all, all-le, keep-all, all-has, keep-same}
-use Rattle.meaning.proofs.Literals.{var-opp, opp-plain}
-use Rattle.meaning.proofs.Prefix.{bound-numbers, mentioned-some, drop-none, eqb-plain, eqb-negated}
-use Rattle.meaning.proofs.Parts.{room-of, good-of, bound-all}
-use Rattle.steps.specs.Recipe.{neither, taken, less, turned, someOf, fed, rawBy, rawsBy, remade}
+use Rattle.steps.specs.Recipe.{taken, less, turned, someOf, fed, rawBy, rawsBy, remade}
 use Rattle.steps.specs.declared.Which.{Which}
-use Rattle.steps.specs.declared.Which.the-variants.{All, But, Without, Free}
+use Rattle.steps.specs.declared.Which.the-variants.{All, But, Without}
 use Rattle.steps.specs.declared.Turn.{Turn}
 use Rattle.steps.specs.declared.Turn.the-variants.{Same, Drop, DropAt, Replace}
+use Rattle.meaning.proofs.Basics.{by-cases, false-of, and-l, and-r, and-i, eqb-sym}
+use Rattle.meaning.proofs.Lists.{all-all, all-le, keep-all}
+use Rattle.meaning.proofs.Literals.{var-opp}
+use Rattle.meaning.proofs.Prefix.{bound-numbers, mentioned-some, drop-none}
+use Rattle.meaning.proofs.Parts.{room-of, good-of, bound-all}
 
 -- The literals of a well formed formula are in range -----------------------------------------------------------------
 good-above : (p : List ℕ) → goodPrefix p ≡ true → allOf (λ q. leb 1 (var q)) p ≡ true

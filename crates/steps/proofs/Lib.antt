@@ -5,5 +5,6 @@ pub mod RawLaws
 pub mod KindLaws
 pub mod GivenLaws
 pub mod PairLaws
+pub mod CopyLaws
 pub mod DecideLaws
 pub mod ResolveLaws

@@ -1,6 +1,6 @@
 -- Laws of the resolvents.
 -- Assumes nothing.
-use Prim.Native.Nat.{ℕ, suc, _+_, _*_, _≤_, _<_}
+use Prim.Native.Nat.{ℕ, _+_, _≤_, _<_}
 use mathlib.Core.Path.{_≡_, refl, sym, ap, _∙_, subst}
 use mathlib.Core.Bool.{Bool, true, false, _&&_, _||_, not, cond}
 use lib.Dec.{eqb}
@@ -18,14 +18,14 @@ use Rattle.table.specs.Pending.{inRange}
 use Rattle.table.specs.declared.Counts.{Counts}
 use Rattle.table.specs.declared.Pushed.{Pushed}
 use Rattle.table.specs.declared.Pushed.the-variants.{Done, Full}
-use Rattle.table.proofs.HoldLaws.{prefix-is}
-use Rattle.meaning.proofs.Basics.{by-cases, and-l, and-r}
-use Rattle.meaning.proofs.Literals.{opp-plain}
-use Rattle.meaning.proofs.Prefix.{eqb-plain, eqb-negated}
 use Rattle.steps.specs.Raws.{withRaws}
 use Rattle.steps.specs.Recipe.{neither, fed}
 use Rattle.steps.specs.Pairs.{eachOf, ofPair, ofClause}
 use Rattle.steps.specs.declared.Turn.the-variants.{Drop}
+use Rattle.table.proofs.HoldLaws.{prefix-is}
+use Rattle.meaning.proofs.Basics.{and-l, and-r}
+use Rattle.meaning.proofs.Literals.{opp-plain}
+use Rattle.meaning.proofs.Prefix.{eqb-plain, eqb-negated}
 use Rattle.steps.proofs.BuildLaws.{built-of, built-there, Going, going-next, going-full, going-end}
 use Rattle.steps.proofs.KindLaws.{fed-drop}
 

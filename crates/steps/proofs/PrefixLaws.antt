@@ -1,29 +1,29 @@
 -- Laws of the new prefix.
 -- Assumes nothing.
-use Prim.Native.Nat.{ℕ, zero, suc, _+_, _-_, _/_, _≤_, _<_}
-use mathlib.Core.Path.{_≡_, refl, sym, ap, _∙_, subst}
+use Prim.Native.Nat.{ℕ, zero, suc, _+_, _/_, _≤_, _<_}
+use mathlib.Core.Path.{_≡_, refl, sym, ap, _∙_}
 use mathlib.Core.Bool.{Bool, true, false, not, cond}
-use mathlib.Core.List.{List, [], _∷_, _++_, append-nil}
-use lib.ListN.{length, getD, take, drop}
+use mathlib.Core.List.{List, [], _∷_, _++_}
+use lib.ListN.{length, getD, take}
 use lib.Seq.{take-suc, take-all, getD-take, length-take-le}
-use lib.Dec.{eqb, leb}
+use lib.Dec.{leb}
 use borrow.Author.Tests.{eq-eqb, ne-eqb}
 use native.Mathlib.Omega.{arith}
 use native.Mathlib.Numerals.{add-one}
 use Rattle.meaning.specs.Lists.{allOf, keepIf}
 use Rattle.meaning.specs.Formula.{Formula, var, isVar, dropVar}
 use Rattle.meaning.specs.WellFormed.{literals, fits, maxVariables}
-use Rattle.meaning.proofs.Basics.{and-l, and-r, and-i, clash}
-use Rattle.meaning.proofs.Lists.{all-keep-le}
-use Rattle.meaning.proofs.Parts.{Room, room-of, of-room}
-use Rattle.table.specs.Table.{tableOf, countsOf, withVariable, emptyFormula, Holds, Held}
+use Rattle.table.specs.Table.{tableOf, countsOf, withVariable, emptyFormula, Holds}
 use Rattle.table.specs.Answer.{Became}
 use Rattle.table.specs.declared.Counts.{Counts}
 use Rattle.table.specs.declared.Pushed.{Pushed}
 use Rattle.table.specs.declared.Pushed.the-variants.{Done, Full}
-use Rattle.table.proofs.HoldLaws.{count-variables, prefix-is, empty-holds, room}
-use Rattle.table.proofs.AnswerLaws.{became-done, became-second, became-full}
 use Rattle.steps.specs.Raws.{bare, keepEntry}
+use Rattle.meaning.proofs.Basics.{and-l, and-r, and-i, clash}
+use Rattle.meaning.proofs.Lists.{all-keep-le}
+use Rattle.meaning.proofs.Parts.{room-of, of-room}
+use Rattle.table.proofs.HoldLaws.{count-variables, prefix-is, empty-holds}
+use Rattle.table.proofs.AnswerLaws.{became-done, became-second, became-full}
 
 -- One entry -----------------------------------------------------------------------------------------------------
 module _ {ψ : Formula} {t : List ℕ} {e : Counts} (h : Holds ψ t e) (v q : ℕ) where

@@ -1,33 +1,32 @@
 -- Laws of the loop over the source's clauses.
 -- Assumes nothing.
-use Prim.Native.Nat.{ℕ, suc, _+_, _≤_, _<_}
+use Prim.Native.Nat.{ℕ, _+_, _≤_, _<_}
 use mathlib.Core.Path.{_≡_, refl, sym, ap, _∙_, subst}
-use mathlib.Core.Bool.{Bool, true, false, cond}
-use mathlib.Core.List.{List, [], _∷_, _++_}
+use mathlib.Core.Bool.{Bool, true, false}
+use mathlib.Core.List.{List, [], _++_}
 use lib.ListN.{length, getD, take, drop, drop-of-length-le}
 use lib.Seq.{drop-cons}
-use native.Mathlib.Omega.{arith}
 use native.Mathlib.Numerals.{add-one}
-use Rattle.meaning.specs.Lists.{allOf}
 use lib.Dec.{leb}
+use Rattle.meaning.specs.Lists.{allOf}
 use Rattle.meaning.specs.Formula.{Formula, var, dropVar}
 use Rattle.meaning.specs.Tidy.{buildOn, build, tidied}
-use Rattle.meaning.proofs.Basics.{and-i}
-use Rattle.meaning.proofs.Parts.{room-of}
-use Rattle.rules.proofs.Good.{good-drop}
 use Rattle.meaning.specs.WellFormed.{goodPrefix, maxVariables}
-use Rattle.table.specs.Table.{withRaw, Holds, Held}
+use Rattle.table.specs.Table.{withRaw, Holds}
 use Rattle.table.specs.Answer.{Became, Built}
 use Rattle.table.specs.Ranks.{ranksOf, goodEntries, Ranked}
 use Rattle.table.specs.declared.Counts.{Counts}
 use Rattle.table.specs.declared.Pushed.{Pushed}
 use Rattle.table.specs.declared.Pushed.the-variants.{Done, Full}
-use Rattle.table.proofs.HoldLaws.{prefix-is}
-use Rattle.permits.proofs.PlaceLaws.{good-entries}
 use Rattle.steps.specs.Raws.{bare, withRaws}
 use Rattle.steps.specs.Recipe.{Ready, taken, fed, rawBy, rawsBy, remade}
 use Rattle.steps.specs.declared.Which.{Which}
 use Rattle.steps.specs.declared.Turn.{Turn}
+use Rattle.meaning.proofs.Basics.{and-i}
+use Rattle.meaning.proofs.Parts.{room-of}
+use Rattle.rules.proofs.Good.{good-drop}
+use Rattle.table.proofs.HoldLaws.{prefix-is}
+use Rattle.permits.proofs.PlaceLaws.{good-entries}
 use Rattle.steps.proofs.BuildLaws.{built-of, built-there, built-done, Going, going-next, going-full, going-end}
 
 -- the ranks of a held formula's prefix

@@ -1,30 +1,30 @@
 -- Laws of recipes: one clause, one literal.
 -- Assumes nothing.
-use Prim.Native.Nat.{ℕ, zero, suc, _+_, _-_, _*_, _/_, _%_, _≤_, _<_}
-use mathlib.Core.Path.{_≡_, refl, sym, ap, _∙_}
+use Prim.Native.Nat.{ℕ, suc, _+_, _-_, _*_, _/_, _%_, _≤_, _<_}
+use mathlib.Core.Path.{_≡_, ap, _∙_}
 use mathlib.Core.Bool.{Bool, true, false, _&&_, not, cond}
 use mathlib.Core.List.{List, [], _∷_, _++_, append-nil, append-assoc}
-use lib.ListN.{length, getD, take, drop, List·getD-eq-default}
+use lib.ListN.{length, getD, take, drop}
 use lib.Seq.{take-suc, take-all}
-use lib.Dec.{eqb, ltb, leb}
+use lib.Dec.{ltb, leb}
 use borrow.Author.Tests.{eq-eqb, ne-eqb, lt-ltb, le-ltb}
 use native.Mathlib.Omega.{arith}
 use native.Mathlib.Numerals.{add-one}
-use Rattle.meaning.specs.Lists.{allOf, anyOf, has}
+use Rattle.meaning.specs.Lists.{allOf, has}
 use Rattle.meaning.specs.Formula.{var, opposite, isVar}
 use Rattle.rules.specs.Simplify.{replaceLit}
-use Rattle.table.specs.Ranks.{ranksOf, goodEntries}
-use Rattle.table.specs.Pending.{inRange, Pends, Pended}
+use Rattle.table.specs.Ranks.{goodEntries}
+use Rattle.table.specs.Pending.{inRange, Pends}
 use Rattle.table.specs.declared.Pending.{Pending}
+use Rattle.permits.specs.Places.{placeFrom, placeOf}
+use Rattle.meaning.specs.WellFormed.{goodPrefix}
+use Rattle.steps.specs.Recipe.{Ready, reaches, neither, less, copyOf, copied, turned, someOf, fed}
+use Rattle.steps.specs.declared.Turn.{Turn}
 use Rattle.table.proofs.RankLaws.{length-ranks}
 use Rattle.table.proofs.PendingLaws.{range-is, range-bounds}
 use Rattle.table.proofs.LoopLaws.{any-found, any-turn, any-end}
-use Rattle.permits.specs.Places.{placeFrom, placeOf}
-use Rattle.meaning.specs.WellFormed.{goodPrefix}
 use Rattle.meaning.proofs.Basics.{false-of, and-l, and-r}
 use Rattle.meaning.proofs.Prefix.{prefix-few}
-use Rattle.steps.specs.Recipe.{Ready, reaches, neither, less, copyOf, copied, turned, someOf, fed}
-use Rattle.steps.specs.declared.Turn.{Turn}
 
 pub ready-length : {q ranks : List ℕ} → Ready q ranks → length ranks ≡ 1024
 ready-length {q} {ranks} r = ap length (r .ranked) ∙ length-ranks q

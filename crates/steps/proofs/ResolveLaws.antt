@@ -2,12 +2,12 @@
 -- Assumes nothing.
 use Prim.Native.Nat.{ℕ, _*_, _<_}
 use mathlib.Core.Path.{_≡_, refl, sym, ap, _∙_}
-use mathlib.Core.Bool.{Bool, true, false, not}
-use mathlib.Core.List.{List, [], _++_, map}
+use mathlib.Core.Bool.{Bool, true, not}
+use mathlib.Core.List.{List, [], _++_}
 use Rattle.meaning.specs.Lists.{allOf, keepIf}
 use Rattle.meaning.specs.Formula.{Formula, plain, negated, mentions, dropVar}
 use Rattle.meaning.specs.Tidy.{build, tidied}
-use Rattle.meaning.specs.WellFormed.{wellFormed, fits}
+use Rattle.meaning.specs.WellFormed.{fits}
 use Rattle.rules.specs.Eliminate.{withLit, withoutVar, resolvents, resolveRaw}
 use Rattle.rules.specs.Entry.{resolve}
 use Rattle.rules.specs.Step.{permitted, rawOf, resultOf}
@@ -16,15 +16,15 @@ use Rattle.table.specs.Pending.{inRange}
 use Rattle.table.specs.declared.Counts.{Counts}
 use Rattle.table.specs.declared.Pushed.{Pushed}
 use Rattle.table.specs.declared.Pushed.the-variants.{Done, Full}
-use Rattle.permits.proofs.PlaceLaws.{entries-of}
-use Rattle.permits.proofs.SideLaws.{resolve-large}
-use Rattle.meaning.proofs.Basics.{clash}
-use Rattle.steps.specs.Raws.{bare, withRaws}
+use Rattle.steps.specs.Raws.{withRaws}
 use Rattle.steps.specs.Recipe.{taken, rawsBy, remade}
 use Rattle.steps.specs.Pairs.{eachOf, ofClause}
 use Rattle.steps.specs.Given.{Given}
 use Rattle.steps.specs.declared.Which.the-variants.{Free}
 use Rattle.steps.specs.declared.Turn.the-variants.{Same}
+use Rattle.permits.proofs.PlaceLaws.{entries-of}
+use Rattle.permits.proofs.SideLaws.{resolve-large}
+use Rattle.meaning.proofs.Basics.{clash}
 use Rattle.steps.proofs.BuildLaws.{raws-append, raws-not, built-not, built-full, built-second}
 use Rattle.steps.proofs.KindLaws.{in-range, map-same, fed-same, raws-keep}
 use Rattle.steps.proofs.PairLaws.{free-is, resolvents-are}

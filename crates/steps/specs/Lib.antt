@@ -3,3 +3,4 @@ pub mod Recipe
 pub mod Given
 pub mod Pairs
 pub mod Decide
+pub mod Copies

@@ -22,6 +22,11 @@ pub record Ready (q ranks : List ℕ) : Type 0 where
   pub good : goodEntries q ≡ true
   pub ranked : ranks ≡ ranksOf q
 
+-- they are those of some prefix
+pub record Readied (ranks : List ℕ) : Type 0 where
+  pub prefix : List ℕ
+  pub ready : Ready prefix ranks
+
 -- a variable of the clause stands behind place s
 unfoldable pub reaches : List ℕ → ℕ → List ℕ → Bool
 reaches q s c = anyOf (λ l. ltb s (placeOf q (var l))) c

@@ -1,4 +1,5 @@
 // Each kind of step, from one lent table into the other.
+mod copies;
 mod deciding;
 mod kinds;
 mod prefixes;

@@ -6,15 +6,6 @@ use Rattle.steps.specs.Decide.{callPermitted}
 use borrow.Author.Needs.{needs}
 use Rattle.steps.proofs.deciding.is_permitted.Statement.{statement}
 use Rattle.steps.proofs.deciding.is_permitted.Tie as tie
-use Rattle.steps.proofs.deciding.is_permitted.Reads as reads
-use Rattle.steps.proofs.deciding.is_permitted.Lts as lts
-use Rattle.permits.proofs.equality_permitted.Reads as equality-permitted-reads
-use Rattle.permits.proofs.expand_permitted.Reads as expand-permitted-reads
-use Rattle.permits.proofs.pure_permitted.Reads as pure-permitted-reads
-use Rattle.permits.proofs.resolve_permitted.Reads as resolve-permitted-reads
-use Rattle.permits.proofs.subsume_permitted.Reads as subsume-permitted-reads
-use Rattle.permits.proofs.unit_permitted.Reads as unit-permitted-reads
-use Rattle.steps.proofs.deciding.strengthen_permitted.Reads as strengthen-permitted-reads
 
 enum-told : tie.Need-enum-told
 enum-told c = search needs

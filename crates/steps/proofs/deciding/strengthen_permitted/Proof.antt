@@ -4,9 +4,6 @@ use Rattle.steps.proofs.DecideLaws.{strengthen-yes, strengthen-none}
 use borrow.Author.Needs.{needs}
 use Rattle.steps.proofs.deciding.strengthen_permitted.Statement.{statement}
 use Rattle.steps.proofs.deciding.strengthen_permitted.Tie as tie
-use Rattle.steps.proofs.deciding.strengthen_permitted.Reads as reads
-use Rattle.steps.proofs.deciding.strengthen_permitted.Lts as lts
-use Rattle.permits.proofs.strengthening_of.Reads as strengthening-of-reads
 
 strengthening-of-requires : tie.Need-strengthening-of-requires
 strengthening-of-requires c κs = search needs

@@ -5,10 +5,6 @@ use mathlib.Core.Path.{refl}
 use borrow.Author.Needs.{needs}
 use Rattle.steps.proofs.kinds.assign_into.Statement.{statement}
 use Rattle.steps.proofs.kinds.assign_into.Tie as tie
-use Rattle.steps.proofs.kinds.assign_into.Reads as reads
-use Rattle.steps.proofs.kinds.assign_into.Lts as lts
-use Rattle.steps.proofs.rebuilding.rebuild.Reads as rebuild-reads
-use Rattle.steps.proofs.recipes.other.Reads as other-reads
 
 other-requires : tie.Need-other-requires
 other-requires c κs = search needs

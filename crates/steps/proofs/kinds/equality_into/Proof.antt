@@ -6,10 +6,6 @@ use Rattle.steps.proofs.GivenLaws.{begun-held, begun-ranks, begun-rebui
 use borrow.Author.Needs.{needs}
 use Rattle.steps.proofs.kinds.equality_into.Statement.{statement}
 use Rattle.steps.proofs.kinds.equality_into.Tie as tie
-use Rattle.steps.proofs.kinds.equality_into.Reads as reads
-use Rattle.steps.proofs.kinds.equality_into.Lts as lts
-use Rattle.permits.proofs.replacement_of.Reads as replacement-of-reads
-use Rattle.steps.proofs.rebuilding.rebuild.Reads as rebuild-reads
 
 replacement-of-requires : tie.Need-replacement-of-requires
 replacement-of-requires c κs = let b = c .before .before .before .before .before .pre in (begun-held b, begun-ranks b)

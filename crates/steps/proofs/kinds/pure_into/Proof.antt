@@ -5,10 +5,6 @@ use Rattle.steps.proofs.GivenLaws.{begun-held, begun-ranks, pure-made}
 use borrow.Author.Needs.{needs}
 use Rattle.steps.proofs.kinds.pure_into.Statement.{statement}
 use Rattle.steps.proofs.kinds.pure_into.Tie as tie
-use Rattle.steps.proofs.kinds.pure_into.Reads as reads
-use Rattle.steps.proofs.kinds.pure_into.Lts as lts
-use Rattle.permits.proofs.pure_literal.Reads as pure-literal-reads
-use Rattle.steps.proofs.kinds.assign_into.Reads as assign-into-reads
 
 pure-literal-requires : tie.Need-pure-literal-requires
 pure-literal-requires c κs = let b = c .before .before .before .before .before .pre in (begun-held b, begun-ranks b)

@@ -4,11 +4,6 @@ use Rattle.steps.proofs.GivenLaws.{begun-held, begun-ranks, begun-rebui
 use borrow.Author.Needs.{needs}
 use Rattle.steps.proofs.kinds.strengthen_into.Statement.{statement}
 use Rattle.steps.proofs.kinds.strengthen_into.Tie as tie
-use Rattle.steps.proofs.kinds.strengthen_into.Reads as reads
-use Rattle.steps.proofs.kinds.strengthen_into.Lts as lts
-use Rattle.permits.proofs.strengthening_of.Reads as strengthening-of-reads
-use Rattle.steps.proofs.rebuilding.rebuild.Reads as rebuild-reads
-use Rattle.steps.proofs.recipes.other.Reads as other-reads
 
 strengthening-of-requires : tie.Need-strengthening-of-requires
 strengthening-of-requires c κs = let b = c .before .before .before .before .before .pre in (begun-held b, begun-ranks b)

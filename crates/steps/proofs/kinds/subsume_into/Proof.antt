@@ -4,9 +4,6 @@ use Rattle.steps.proofs.GivenLaws.{begun-rebuild, subsume-made}
 use borrow.Author.Needs.{needs}
 use Rattle.steps.proofs.kinds.subsume_into.Statement.{statement}
 use Rattle.steps.proofs.kinds.subsume_into.Tie as tie
-use Rattle.steps.proofs.kinds.subsume_into.Reads as reads
-use Rattle.steps.proofs.kinds.subsume_into.Lts as lts
-use Rattle.steps.proofs.rebuilding.rebuild.Reads as rebuild-reads
 
 rebuild-requires : tie.Need-rebuild-requires
 rebuild-requires c κs = begun-rebuild (c .before .before .before .before .before .before .before .pre)

@@ -4,10 +4,6 @@ use Rattle.steps.proofs.GivenLaws.{begun-held, unit-made}
 use borrow.Author.Needs.{needs}
 use Rattle.steps.proofs.kinds.unit_into.Statement.{statement}
 use Rattle.steps.proofs.kinds.unit_into.Tie as tie
-use Rattle.steps.proofs.kinds.unit_into.Reads as reads
-use Rattle.steps.proofs.kinds.unit_into.Lts as lts
-use Rattle.permits.proofs.unit_literal.Reads as unit-literal-reads
-use Rattle.steps.proofs.kinds.assign_into.Reads as assign-into-reads
 
 unit-literal-requires : tie.Need-unit-literal-requires
 unit-literal-requires c κs = begun-held (c .before .before .before .before .pre)

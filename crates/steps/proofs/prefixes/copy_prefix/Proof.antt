@@ -12,9 +12,6 @@ use Rattle.steps.proofs.PrefixLaws.{copy-start, copy-fits, copy-turn, c
 use borrow.Author.Needs.{needs}
 use Rattle.steps.proofs.prefixes.copy_prefix.Statement.{statement}
 use Rattle.steps.proofs.prefixes.copy_prefix.Tie as tie
-use Rattle.steps.proofs.prefixes.copy_prefix.Reads as reads
-use Rattle.steps.proofs.prefixes.copy_prefix.Lts as lts
-use Rattle.steps.proofs.prefixes.keep_entry.Reads as keep-entry-reads
 
 abbrev Inv-loop : tie.InvT-loop
 Inv-loop source c v target₀ second e₀ i₀ target e i = (i ≤ c .variables) × (length target ≡ length target₀) × (e .second ≡ second) × ((φ : Formula) → Holds φ source c → Holds (bare (dropVar v (take i (φ .prefix)))) target e)

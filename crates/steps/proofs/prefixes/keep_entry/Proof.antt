@@ -5,9 +5,6 @@ use Rattle.steps.proofs.PrefixLaws.{keep-skip, keep-push, keep-full}
 use borrow.Author.Needs.{needs}
 use Rattle.steps.proofs.prefixes.keep_entry.Statement.{statement}
 use Rattle.steps.proofs.prefixes.keep_entry.Tie as tie
-use Rattle.steps.proofs.prefixes.keep_entry.Reads as reads
-use Rattle.steps.proofs.prefixes.keep_entry.Lts as lts
-use Rattle.table.proofs.push_variable.Reads as push-variable-reads
 
 returns : tie.Need-returns
 returns c = λ ψ h f. (keep-skip h _ _ (c .if1 .taken), refl)

@@ -13,10 +13,6 @@ use Rattle.steps.proofs.RawLaws.{ready-as, all-next, all-full, all-end}
 use borrow.Author.Needs.{needs}
 use Rattle.steps.proofs.rebuilding.add_all.Statement.{statement}
 use Rattle.steps.proofs.rebuilding.add_all.Tie as tie
-use Rattle.steps.proofs.rebuilding.add_all.Reads as reads
-use Rattle.steps.proofs.rebuilding.add_all.Lts as lts
-use Rattle.steps.proofs.rebuilding.add_one.Reads as add-one-reads
-use Rattle.table.proofs.clause_at.Reads as clause-at-reads
 
 abbrev Inv-loop : tie.InvT-loop
 Inv-loop source c target₀ which turn scratch₀ ranks e₀ i₀ target scratch e i = (i ≤ c .clauses) × (length target ≡ length target₀) × (length scratch ≡ length scratch₀) × ((φ ψ : Formula) → Holds φ source c → Holds ψ target₀ e₀ → Going ψ (rawsBy which turn (ψ .prefix) 0 (φ .clauses)) (rawsBy which turn (ψ .prefix) i (drop i (φ .clauses))) (e₀ .second) target e)

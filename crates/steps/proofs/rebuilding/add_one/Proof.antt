@@ -11,12 +11,6 @@ use Rattle.steps.proofs.RawLaws.{ready-good, ready-ranks, one-left, one
 use borrow.Author.Needs.{needs}
 use Rattle.steps.proofs.rebuilding.add_one.Statement.{statement}
 use Rattle.steps.proofs.rebuilding.add_one.Tie as tie
-use Rattle.steps.proofs.rebuilding.add_one.Reads as reads
-use Rattle.steps.proofs.rebuilding.add_one.Lts as lts
-use Rattle.steps.proofs.recipes.feed.Reads as feed-reads
-use Rattle.steps.proofs.recipes.is_taken.Reads as is-taken-reads
-use Rattle.table.proofs.Pending.empty.Reads as empty-reads
-use Rattle.table.proofs.close_clause.Reads as close-clause-reads
 
 is-taken-requires : tie.Need-is-taken-requires
 is-taken-requires c κs = ready-length (c .before .before .before .before .pre .1 .0)

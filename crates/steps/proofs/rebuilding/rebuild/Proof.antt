@@ -11,11 +11,6 @@ use Rattle.steps.proofs.RawLaws.{ranked-ready, copied-good, remade-buil
 use borrow.Author.Needs.{needs}
 use Rattle.steps.proofs.rebuilding.rebuild.Statement.{statement}
 use Rattle.steps.proofs.rebuilding.rebuild.Tie as tie
-use Rattle.steps.proofs.rebuilding.rebuild.Reads as reads
-use Rattle.steps.proofs.rebuilding.rebuild.Lts as lts
-use Rattle.steps.proofs.prefixes.copy_prefix.Reads as copy-prefix-reads
-use Rattle.steps.proofs.rebuilding.add_all.Reads as add-all-reads
-use Rattle.table.proofs.rank_prefix.Reads as rank-prefix-reads
 
 -- once the prefix is copied
 copied : (c : tie.After-copy-prefix) → Held (c .copy-prefix .last .1 .1 .1 .0) (c .copy-prefix .result)

@@ -5,10 +5,6 @@ use Rattle.steps.proofs.RecipeLaws.{ready-length, place-small, copied-f
 use borrow.Author.Needs.{needs}
 use Rattle.steps.proofs.recipes.copied_in.Statement.{statement}
 use Rattle.steps.proofs.recipes.copied_in.Tie as tie
-use Rattle.steps.proofs.recipes.copied_in.Reads as reads
-use Rattle.steps.proofs.recipes.copied_in.Lts as lts
-use Rattle.permits.proofs.place_of.Reads as place-of-reads
-use Rattle.steps.proofs.recipes.entry_at.Reads as entry-at-reads
 
 cast-v : tie.Need-cast-v
 cast-v c = search needs

@@ -6,8 +6,6 @@ use lib.ListN.{List·getD-eq-default}
 use borrow.Author.Needs.{needs}
 use Rattle.steps.proofs.recipes.entry_at.Statement.{statement}
 use Rattle.steps.proofs.recipes.entry_at.Tie as tie
-use Rattle.steps.proofs.recipes.entry_at.Reads as reads
-use Rattle.steps.proofs.recipes.entry_at.Lts as lts
 
 mul-result : tie.Need-mul-result
 mul-result c = search needs

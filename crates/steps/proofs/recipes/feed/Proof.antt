@@ -12,10 +12,6 @@ use Rattle.steps.proofs.RecipeLaws.{ready-length, feed-start, feed-turn
 use borrow.Author.Needs.{needs}
 use Rattle.steps.proofs.recipes.feed.Statement.{statement}
 use Rattle.steps.proofs.recipes.feed.Tie as tie
-use Rattle.steps.proofs.recipes.feed.Reads as reads
-use Rattle.steps.proofs.recipes.feed.Lts as lts
-use Rattle.steps.proofs.recipes.literal_turned.Reads as literal-turned-reads
-use Rattle.steps.proofs.recipes.put_some.Reads as put-some-reads
 
 abbrev Inv-loop : tie.InvT-loop
 Inv-loop scratch₀ clause i turn prefix ranks w₀ j₀ scratch w j = (j ≤ length clause) × (length scratch ≡ length scratch₀) × Ready prefix ranks × ((raw : List ℕ) → Pends raw scratch₀ w₀ → Pends (raw ++ fed turn prefix i (take j clause)) scratch w) × Pended scratch w

@@ -4,10 +4,6 @@ use Rattle.steps.proofs.RecipeLaws.{neither-has, neither-other}
 use borrow.Author.Needs.{needs}
 use Rattle.steps.proofs.recipes.has_neither.Statement.{statement}
 use Rattle.steps.proofs.recipes.has_neither.Tie as tie
-use Rattle.steps.proofs.recipes.has_neither.Reads as reads
-use Rattle.steps.proofs.recipes.has_neither.Lts as lts
-use Rattle.steps.proofs.recipes.other.Reads as other-reads
-use Rattle.table.proofs.contains.Reads as contains-reads
 
 contains-requires : tie.Need-contains-requires
 contains-requires c κs = search needs

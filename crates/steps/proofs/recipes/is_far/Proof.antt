@@ -4,10 +4,6 @@ use Rattle.steps.proofs.RecipeLaws.{far-both, far-near}
 use borrow.Author.Needs.{needs}
 use Rattle.steps.proofs.recipes.is_far.Statement.{statement}
 use Rattle.steps.proofs.recipes.is_far.Tie as tie
-use Rattle.steps.proofs.recipes.is_far.Reads as reads
-use Rattle.steps.proofs.recipes.is_far.Lts as lts
-use Rattle.steps.proofs.recipes.reaches_behind.Reads as reaches-behind-reads
-use Rattle.table.proofs.contains.Reads as contains-reads
 
 reaches-behind-requires : tie.Need-reaches-behind-requires
 reaches-behind-requires c κs = search needs

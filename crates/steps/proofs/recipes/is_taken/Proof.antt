@@ -6,12 +6,6 @@ use Rattle.steps.specs.Recipe.{taken}
 use borrow.Author.Needs.{needs}
 use Rattle.steps.proofs.recipes.is_taken.Statement.{statement}
 use Rattle.steps.proofs.recipes.is_taken.Tie as tie
-use Rattle.steps.proofs.recipes.is_taken.Reads as reads
-use Rattle.steps.proofs.recipes.is_taken.Lts as lts
-use Rattle.steps.proofs.recipes.has_neither.Reads as has-neither-reads
-use Rattle.steps.proofs.recipes.is_far.Reads as is-far-reads
-use Rattle.steps.proofs.recipes.reaches_behind.Reads as reaches-behind-reads
-use Rattle.table.proofs.contains.Reads as contains-reads
 
 enum-told : tie.Need-enum-told
 enum-told c = search needs

@@ -4,8 +4,6 @@ use Rattle.steps.proofs.RecipeLaws.{less-same, less-other}
 use borrow.Author.Needs.{needs}
 use Rattle.steps.proofs.recipes.left_of.Statement.{statement}
 use Rattle.steps.proofs.recipes.left_of.Tie as tie
-use Rattle.steps.proofs.recipes.left_of.Reads as reads
-use Rattle.steps.proofs.recipes.left_of.Lts as lts
 
 returns : tie.Need-returns
 returns c = less-same _ _ (c .if1 .taken)

@@ -5,11 +5,6 @@ use Rattle.steps.specs.Recipe.{turned}
 use borrow.Author.Needs.{needs}
 use Rattle.steps.proofs.recipes.literal_turned.Statement.{statement}
 use Rattle.steps.proofs.recipes.literal_turned.Tie as tie
-use Rattle.steps.proofs.recipes.literal_turned.Reads as reads
-use Rattle.steps.proofs.recipes.literal_turned.Lts as lts
-use Rattle.steps.proofs.recipes.copied_in.Reads as copied-in-reads
-use Rattle.steps.proofs.recipes.left_of.Reads as left-of-reads
-use Rattle.steps.proofs.recipes.replaced_in.Reads as replaced-in-reads
 
 enum-told : tie.Need-enum-told
 enum-told c = search needs

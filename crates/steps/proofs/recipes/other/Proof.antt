@@ -4,8 +4,6 @@ use Rattle.table.proofs.TestLaws.{flip-even, flip-odd}
 use borrow.Author.Needs.{needs}
 use Rattle.steps.proofs.recipes.other.Statement.{statement}
 use Rattle.steps.proofs.recipes.other.Tie as tie
-use Rattle.steps.proofs.recipes.other.Reads as reads
-use Rattle.steps.proofs.recipes.other.Lts as lts
 
 add-result : tie.Need-add-result
 add-result c = search needs

@@ -5,9 +5,6 @@ use native.Mathlib.Omega.{arith}
 use borrow.Author.Needs.{needs}
 use Rattle.steps.proofs.recipes.put_some.Statement.{statement}
 use Rattle.steps.proofs.recipes.put_some.Tie as tie
-use Rattle.steps.proofs.recipes.put_some.Reads as reads
-use Rattle.steps.proofs.recipes.put_some.Lts as lts
-use Rattle.table.proofs.put_literal.Reads as put-literal-reads
 
 returns : tie.Need-returns
 returns c = λ raw h. some-low raw _ _ _ (c .if1 .taken) h

@@ -10,9 +10,6 @@ use Rattle.steps.proofs.RecipeLaws.{reaches-found, reaches-turn, reache
 use borrow.Author.Needs.{needs}
 use Rattle.steps.proofs.recipes.reaches_behind.Statement.{statement}
 use Rattle.steps.proofs.recipes.reaches_behind.Tie as tie
-use Rattle.steps.proofs.recipes.reaches_behind.Reads as reads
-use Rattle.steps.proofs.recipes.reaches_behind.Lts as lts
-use Rattle.permits.proofs.place_of.Reads as place-of-reads
 
 abbrev Inv-loop : tie.InvT-loop
 Inv-loop clause ranks place i₀ i = (i ≤ length clause) × ((q : List ℕ) → Ready q ranks → reaches q place clause ≡ reaches q place (drop i clause))

@@ -4,9 +4,6 @@ use Rattle.steps.proofs.RecipeLaws.{replace-old, replace-opposite, repl
 use borrow.Author.Needs.{needs}
 use Rattle.steps.proofs.recipes.replaced_in.Statement.{statement}
 use Rattle.steps.proofs.recipes.replaced_in.Tie as tie
-use Rattle.steps.proofs.recipes.replaced_in.Reads as reads
-use Rattle.steps.proofs.recipes.replaced_in.Lts as lts
-use Rattle.steps.proofs.recipes.other.Reads as other-reads
 
 returns : tie.Need-returns
 returns c = replace-old _ _ _ (c .if1 .taken)

@@ -4,10 +4,6 @@ use Rattle.steps.proofs.PairLaws.{clause-left, clause-taken}
 use borrow.Author.Needs.{needs}
 use Rattle.steps.proofs.resolving.add_clause_pairs.Statement.{statement}
 use Rattle.steps.proofs.resolving.add_clause_pairs.Tie as tie
-use Rattle.steps.proofs.resolving.add_clause_pairs.Reads as reads
-use Rattle.steps.proofs.resolving.add_clause_pairs.Lts as lts
-use Rattle.steps.proofs.resolving.add_pairs.Reads as add-pairs-reads
-use Rattle.table.proofs.contains.Reads as contains-reads
 
 contains-requires : tie.Need-contains-requires
 contains-requires c κs = search needs

@@ -12,13 +12,6 @@ use Rattle.steps.proofs.PairLaws.{pair-left, pair-taken}
 use borrow.Author.Needs.{needs}
 use Rattle.steps.proofs.resolving.add_pair.Statement.{statement}
 use Rattle.steps.proofs.resolving.add_pair.Tie as tie
-use Rattle.steps.proofs.resolving.add_pair.Reads as reads
-use Rattle.steps.proofs.resolving.add_pair.Lts as lts
-use Rattle.steps.proofs.recipes.feed.Reads as feed-reads
-use Rattle.steps.proofs.recipes.other.Reads as other-reads
-use Rattle.table.proofs.Pending.empty.Reads as empty-reads
-use Rattle.table.proofs.close_clause.Reads as close-clause-reads
-use Rattle.table.proofs.contains.Reads as contains-reads
 
 other-requires : tie.Need-other-requires
 other-requires c κs = search needs

@@ -14,10 +14,6 @@ use Rattle.steps.proofs.PairLaws.{each-next, each-full, each-end, pair-
 use borrow.Author.Needs.{needs}
 use Rattle.steps.proofs.resolving.add_pairs.Statement.{statement}
 use Rattle.steps.proofs.resolving.add_pairs.Tie as tie
-use Rattle.steps.proofs.resolving.add_pairs.Reads as reads
-use Rattle.steps.proofs.resolving.add_pairs.Lts as lts
-use Rattle.steps.proofs.resolving.add_pair.Reads as add-pair-reads
-use Rattle.table.proofs.clause_at.Reads as clause-at-reads
 
 abbrev Inv-loop : tie.InvT-loop
 Inv-loop source c target₀ x literal scratch₀ ranks e₀ i₀ target scratch e i = (i ≤ c .clauses) × (length target ≡ length target₀) × (length scratch ≡ length scratch₀) × ((φ ψ : Formula) → Holds φ source c → Holds ψ target₀ e₀ → Going ψ (eachOf (ofPair literal (ψ .prefix) x) (φ .clauses)) (eachOf (ofPair literal (ψ .prefix) x) (drop i (φ .clauses))) (e₀ .second) target e)

@@ -14,10 +14,6 @@ use Rattle.steps.proofs.PairLaws.{each-next, each-full, each-end, claus
 use borrow.Author.Needs.{needs}
 use Rattle.steps.proofs.resolving.add_resolvents.Statement.{statement}
 use Rattle.steps.proofs.resolving.add_resolvents.Tie as tie
-use Rattle.steps.proofs.resolving.add_resolvents.Reads as reads
-use Rattle.steps.proofs.resolving.add_resolvents.Lts as lts
-use Rattle.steps.proofs.resolving.add_clause_pairs.Reads as add-clause-pairs-reads
-use Rattle.table.proofs.clause_at.Reads as clause-at-reads
 
 abbrev Inv-loop : tie.InvT-loop
 Inv-loop source c target₀ literal scratch₀ ranks e₀ i₀ target scratch e i = (i ≤ c .clauses) × (length target ≡ length target₀) × (length scratch ≡ length scratch₀) × ((φ ψ : Formula) → Holds φ source c → Holds ψ target₀ e₀ → Going ψ (eachOf (ofClause literal (ψ .prefix) (φ .clauses)) (φ .clauses)) (eachOf (ofClause literal (ψ .prefix) (φ .clauses)) (drop i (φ .clauses))) (e₀ .second) target e)

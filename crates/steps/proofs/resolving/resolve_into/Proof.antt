@@ -8,10 +8,6 @@ use Rattle.steps.proofs.ResolveLaws.{resolve-never, resolve-full, resol
 use borrow.Author.Needs.{needs}
 use Rattle.steps.proofs.resolving.resolve_into.Statement.{statement}
 use Rattle.steps.proofs.resolving.resolve_into.Tie as tie
-use Rattle.steps.proofs.resolving.resolve_into.Reads as reads
-use Rattle.steps.proofs.resolving.resolve_into.Lts as lts
-use Rattle.steps.proofs.rebuilding.rebuild.Reads as rebuild-reads
-use Rattle.steps.proofs.resolving.add_resolvents.Reads as add-resolvents-reads
 
 returns : tie.Need-returns
 returns c = λ φ g p. resolve-never g _ p (c .if1 .taken)
