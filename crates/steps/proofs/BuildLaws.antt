@@ -138,3 +138,16 @@ module _ (ψ : Formula) (all now : List (List ℕ)) (b : Bool) (t : List ℕ) (e
     going-full q =
         built-not (withRaws ψ all) b t′
         (ap fits (sym onward) ∙ raws-not (withRaws (g .formula) some) rest (built-full (withRaws (g .formula) some) (e .second) r t′ k q))
+
+-- One list of raw clauses after another; the second goes by the prefix -----------------------------------------------------
+module _ (ψ : Formula) (xs : List (List ℕ)) (s : Bool) (r : Pushed) (t : List ℕ) (k : Built (withRaws ψ xs) s r t) (f : List ℕ → List (List ℕ)) where
+  pub then-full : r ≡ Full → (t′ : List ℕ) → Built (withRaws ψ (xs ++ f (ψ .prefix))) s Full t′
+  then-full q t′ =
+      built-not (withRaws ψ (xs ++ f (ψ .prefix))) s t′
+      (ap fits (raws-append ψ xs (f (ψ .prefix))) ∙ raws-not (withRaws ψ xs) (f (ψ .prefix)) (built-full (withRaws ψ xs) s r t k q))
+
+  pub then-done : (e : Counts) → r ≡ Done e → (r′ : Pushed) (t′ : List ℕ) → Built (withRaws (withRaws ψ xs) (f (withRaws ψ xs .prefix))) (e .second) r′ t′ → Built (withRaws ψ (xs ++ f (ψ .prefix))) s r′ t′
+  then-done e q r′ t′ m = rw (built-second (withRaws ψ xs) s r t k e q, append) at m
+    where
+      append : withRaws (withRaws ψ xs) (f (withRaws ψ xs .prefix)) ≡ withRaws ψ (xs ++ f (ψ .prefix))
+      append = unfold withRaws in sym (raws-append ψ xs (f (ψ .prefix)))

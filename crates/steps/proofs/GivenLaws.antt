@@ -23,12 +23,13 @@ use Rattle.permits.specs.Choices.{pureTrue, strengtheningOf, replacing, replace
 use Rattle.permits.specs.declared.Strengthens.{Strengthens}
 use Rattle.permits.specs.declared.Strengthens.the-variants.{By, No}
 use Rattle.permits.specs.declared.Replacement.{Replacement}
-use Rattle.steps.specs.Recipe.{remade}
+use Rattle.steps.specs.Recipe.{Ready, remade}
 use Rattle.steps.specs.Given.{Given, Begun}
 use Rattle.steps.specs.declared.Which.the-variants.{All, But, Without}
 use Rattle.steps.specs.declared.Turn.the-variants.{Same, Drop, DropAt, Replace}
 use Rattle.table.proofs.HoldLaws.{prefix-is, held}
 use Rattle.table.proofs.RankLaws.{length-ranks}
+use Rattle.permits.proofs.PlaceLaws.{entries-of}
 use Rattle.permits.proofs.PureLaws.{pure-raw}
 use Rattle.permits.proofs.EqualLaws.{equality-raw}
 use Rattle.meaning.proofs.Basics.{by-cases, clash, and-l, and-r}
@@ -48,6 +49,10 @@ module _ {source : List ℕ} {c : Counts} {target scratch ranks : List ℕ} (b :
 
   pub begun-rebuild : Held source c × ((goodPrefix (take (c .variables) source) ≡ true) × ((target ≡ tableOf emptyFormula) × ((length scratch ≡ 1023) × (length ranks ≡ 1024))))
   begun-rebuild = (begun-held, (begun-good, (b .empty, (b .room, begun-ranks))))
+
+-- the ranks are those of the formula's prefix
+pub given-ready : {φ : Formula} {source : List ℕ} {c : Counts} {ranks : List ℕ} → Given φ source c ranks → Ready (φ .prefix) ranks
+given-ready {φ} {source} {c} {ranks} g = record { good = entries-of φ (g .well) (g .holds .fitting); ranked = g .ranked }
 
 -- what replaces a literal is one
 pair-range : (x d : List ℕ) → oppositePair x d ≡ true → allOf inRange x ≡ true → (inRange (getD x 0 0) ≡ true) × (inRange (getD x 1 0) ≡ true)

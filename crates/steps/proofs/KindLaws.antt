@@ -24,7 +24,7 @@ use Rattle.meaning.proofs.Literals.{var-opp}
 use Rattle.meaning.proofs.Prefix.{bound-numbers, mentioned-some, drop-none}
 use Rattle.meaning.proofs.Parts.{room-of, good-of, bound-all}
 
--- The literals of a well formed formula are in range -----------------------------------------------------------------
+-- The entries and the literals of a well formed formula are in range -----------------------------------------------------------------
 good-above : (p : List ℕ) → goodPrefix p ≡ true → allOf (λ q. leb 1 (var q)) p ≡ true
 unfolding goodPrefix allOf
 good-above [] g = refl
@@ -32,12 +32,19 @@ good-above (q ∷ p) g =
     and-i (leb 1 (var q)) (allOf (λ x. leb 1 (var x)) p) (le-leb 1 (var q) (ltb-true 0 (var q) (and-l (ltb 0 (var q)) (not (mentions p (var q)) && goodPrefix p) g)))
     (good-above p (and-r (not (mentions p (var q))) (goodPrefix p) (and-r (ltb 0 (var q)) (not (mentions p (var q)) && goodPrefix p) g)))
 
-pub in-range : (φ : Formula) → wellFormed φ ≡ true → fits φ ≡ true → allOf (allOf inRange) (φ .clauses) ≡ true
+pub numbers-in : (φ : Formula) → wellFormed φ ≡ true → fits φ ≡ true → allOf (λ q. inRange q) (φ .prefix) ≡ true
 unfolding inRange
+numbers-in φ w f =
+    all-all (λ q. leb 1 (var q)) (λ q. leb (var q) maxVariables) (φ .prefix) (good-above (φ .prefix) (good-of φ w)) (room-of φ f .numbers)
+
+-- so are those of a clause of the prefix's variables
+pub bound-range : (p c : List ℕ) → allOf (λ q. inRange q) p ≡ true → bound p c ≡ true → allOf inRange c ≡ true
+unfolding inRange
+bound-range p c n b = bound-numbers (λ v. leb 1 v && leb v maxVariables) p c n b
+
+pub in-range : (φ : Formula) → wellFormed φ ≡ true → fits φ ≡ true → allOf (allOf inRange) (φ .clauses) ≡ true
 in-range φ w f =
-    all-le (bound (φ .prefix)) (allOf inRange) (φ .clauses)
-    (λ c b. bound-numbers (λ v. leb 1 v && leb v maxVariables) (φ .prefix) c (all-all (λ q. leb 1 (var q)) (λ q. leb (var q) maxVariables) (φ .prefix) (good-above (φ .prefix) (good-of φ w)) (room-of φ f .numbers)) b)
-    (bound-all φ w)
+    all-le (bound (φ .prefix)) (allOf inRange) (φ .clauses) (λ c b. bound-range (φ .prefix) c (numbers-in φ w f) b) (bound-all φ w)
 
 pub range-opposite : (l : ℕ) → inRange l ≡ true → inRange (opposite l) ≡ true
 unfolding inRange
@@ -58,11 +65,11 @@ fed-keep t q i g keep f (k ∷ c) a h = go (keep k) (h k (and-l (g k) (allOf g c
     go true e ih = rw (e, ih)
     go false e ih = rw (e, ih)
 
-some-zero : someOf 0 ≡ []
+pub some-zero : someOf 0 ≡ []
 unfolding someOf inRange var
 some-zero = refl
 
-some-in : (k : ℕ) → inRange k ≡ true → someOf k ≡ k ∷ []
+pub some-in : (k : ℕ) → inRange k ≡ true → someOf k ≡ k ∷ []
 unfolding someOf
 some-in k h = rw h
 

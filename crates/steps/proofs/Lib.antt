@@ -8,3 +8,5 @@ pub mod PairLaws
 pub mod CopyLaws
 pub mod DecideLaws
 pub mod ResolveLaws
+pub mod ExpandPlaces
+pub mod ExpandLaws

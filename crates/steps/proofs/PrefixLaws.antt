@@ -74,7 +74,7 @@ keep-next v p i h = go (isVar v (getD p i 0)) refl
     go true e = rw e (sym (whole ∙ rw e))
     go false e = rw e (sym (whole ∙ rw e))
 
-length-keep : (f : ℕ → Bool) (p : List ℕ) → length (keepIf f p) ≤ length p
+pub length-keep : (f : ℕ → Bool) (p : List ℕ) → length (keepIf f p) ≤ length p
 unfolding keepIf
 length-keep f [] = omega arith
 length-keep f (x ∷ p) = go (f x) (length-keep f p)

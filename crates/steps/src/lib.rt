@@ -1,11 +1,21 @@
 // Each kind of step, from one lent table into the other.
 mod copies;
 mod deciding;
+mod expanding;
 mod kinds;
 mod prefixes;
 mod rebuilding;
 mod recipes;
 mod resolving;
+
+pub use deciding::is_permitted;
+pub use expanding::expand_into;
+pub use kinds::equality_into;
+pub use kinds::pure_into;
+pub use kinds::strengthen_into;
+pub use kinds::subsume_into;
+pub use kinds::unit_into;
+pub use resolving::resolve_into;
 
 // Which clauses of the source are taken.
 pub enum Which {

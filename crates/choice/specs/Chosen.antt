@@ -1,0 +1,72 @@
+-- The code's answers for what the run does next, and for the best step of kind 6 or 7.
+-- Assumes nothing.
+use mathlib.Core.Path.{_≡_}
+use Prim.Native.Nat.{ℕ, _+_}
+use mathlib.Core.Bool.{Bool, true, false, cond}
+use mathlib.Core.List.{List, [], _∷_}
+use Rattle.meaning.specs.Lists.{anyOf}
+use Rattle.meaning.specs.Formula.{Formula}
+use Rattle.meaning.specs.WellFormed.{weight}
+use Rattle.rules.specs.Entry.{Kind, unit, pure, subsume, strengthen, equality, resolve, expand, entry}
+use Rattle.rules.specs.Choice.{Found, none, found, blockedCall, firsts, candidate}
+use Rattle.rules.specs.Run as rules
+use Rattle.rules.specs.Run.{isTRUE, isFALSE, finished, outOfRoom, over, step}
+use Rattle.weigh.specs.Weights.{weighedStep}
+use Rattle.weigh.specs.declared.Weighed.{Weighed}
+use Rattle.weigh.specs.declared.Weighed.the-variants.{Over, Fitting, Wide}
+use Rattle.choice.specs.declared.End.{End}
+use Rattle.choice.specs.declared.End.the-variants as end
+use Rattle.choice.specs.declared.Next.{Next}
+use Rattle.choice.specs.declared.Next.the-variants as next
+use Rattle.choice.specs.declared.Best.{Best}
+use Rattle.choice.specs.declared.Best.the-variants.{Nothing, Lightest}
+use Rattle.choice.specs.declared.Standing.{Standing}
+
+unfoldable pub endAs : rules.End → End
+endAs isTRUE = end.True
+endAs isFALSE = end.False
+endAs finished = end.Finished
+endAs outOfRoom = end.OutOfRoom
+
+unfoldable pub nextAs : rules.Next → Next
+nextAs (over e) = next.Over (endAs e)
+nextAs (step k a b) = next.Step (entry k a b)
+
+-- Kinds 6 and 7 ------------------------------------------------------------------------------------------------
+unfoldable pub bestAs : Found → Bool → Best
+bestAs none room = Nothing room
+bestAs (found a b) room = Lightest a
+
+-- some step of the kind failed only for room
+unfoldable pub anyOfKind : ℕ → Formula → Kind → Bool
+anyOfKind E φ k = anyOf (λ a. blockedCall E φ k a 0) (firsts φ k)
+
+unfoldable pub bestOf : ℕ → Formula → Kind → Best
+bestOf E φ k = bestAs (candidate E φ k) (anyOfKind E φ k)
+
+-- "Kind 6 counts only where the weight falls, kind 7 only where it falls or rises by at most E": it stays below this
+unfoldable pub limitOf : ℕ → Formula → Kind → ℕ
+limitOf E φ unit = 0
+limitOf E φ pure = 0
+limitOf E φ subsume = 0
+limitOf E φ strengthen = 0
+limitOf E φ equality = 0
+limitOf E φ resolve = weight φ
+limitOf E φ expand = weight φ + E + 1
+
+-- "take the least resulting weight, then the leftmost": from the left, a result is better if it is lighter
+unfoldable pub roomless : Best → Best
+roomless (Nothing room) = Nothing true
+roomless (Lightest a) = Lightest a
+
+unfoldable pub considered : Standing → ℕ → Weighed → Standing
+considered s a Over = s
+considered s a (Fitting w) = record { best = Lightest a; below = w }
+considered s a Wide = record { best = roomless (s .best); below = s .below }
+
+unfoldable pub considerAll : Formula → Kind → Standing → List ℕ → Standing
+considerAll φ k s [] = s
+considerAll φ k s (a ∷ l) = considerAll φ k (considered s a (weighedStep (s .below) φ k a)) l
+
+abbrev pub nothingYet : ℕ → Standing
+nothingYet below = record { best = Nothing false; below = below }

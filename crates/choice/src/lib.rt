@@ -1,0 +1,27 @@
+// Which step the run takes next (document 01, "The run").
+
+// How a run ends by itself.
+pub enum End {
+    True,
+    False,
+    Finished,
+    OutOfRoom,
+}
+
+// The run is over, or takes the step with this entry.
+pub enum Next {
+    Over(End),
+    Step(u32),
+}
+
+// Of the steps of kind 6 or 7: none counts, and whether one failed only for room; or the variable of the lightest.
+pub enum Best {
+    Nothing(bool),
+    Lightest(usize),
+}
+
+// The best so far, and the weight that a result must stay below to be better.
+pub struct Standing {
+    pub best: Best,
+    pub below: usize,
+}
