@@ -8,7 +8,7 @@ use Rattle.meaning.specs.Lists.{anyOf}
 use Rattle.meaning.specs.Formula.{Formula}
 use Rattle.meaning.specs.WellFormed.{weight}
 use Rattle.rules.specs.Entry.{Kind, unit, pure, subsume, strengthen, equality, resolve, expand, entry}
-use Rattle.rules.specs.Choice.{Found, none, found, blockedCall, firsts, candidate}
+use Rattle.rules.specs.Choice.{Found, none, found, blockedCall, firsts, candidate, stuck, chooseOf}
 use Rattle.rules.specs.Run as rules
 use Rattle.rules.specs.Run.{isTRUE, isFALSE, finished, outOfRoom, over, step}
 use Rattle.weigh.specs.Weights.{weighedStep}
@@ -70,3 +70,21 @@ considerAll φ k s (a ∷ l) = considerAll φ k (considered s a (weighedStep (s 
 
 abbrev pub nothingYet : ℕ → Standing
 nothingYet below = record { best = Nothing false; below = below }
+
+-- All kinds ----------------------------------------------------------------------------------------------------
+-- "in the order 1 to 7"
+unfoldable pub kindsAfter : Kind → List Kind
+kindsAfter unit = pure ∷ subsume ∷ strengthen ∷ equality ∷ resolve ∷ expand ∷ []
+kindsAfter pure = subsume ∷ strengthen ∷ equality ∷ resolve ∷ expand ∷ []
+kindsAfter subsume = strengthen ∷ equality ∷ resolve ∷ expand ∷ []
+kindsAfter strengthen = equality ∷ resolve ∷ expand ∷ []
+kindsAfter equality = resolve ∷ expand ∷ []
+kindsAfter resolve = expand ∷ []
+kindsAfter expand = []
+
+-- what the run does next where no kind before k has a candidate
+unfoldable pub chosenFrom : ℕ → Formula → Kind → Next
+chosenFrom E φ k = nextAs (rules.nextOf (chooseOf E φ (k ∷ kindsAfter k)))
+
+unfoldable pub stuckAs : Bool → Next
+stuckAs room = nextAs (rules.nextOf (stuck room))

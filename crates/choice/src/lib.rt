@@ -1,4 +1,9 @@
 // Which step the run takes next (document 01, "The run").
+mod best;
+mod kinds;
+mod standing;
+
+pub use kinds::choose;
 
 // How a run ends by itself.
 pub enum End {

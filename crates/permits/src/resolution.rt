@@ -17,7 +17,7 @@ use table::clause_at;
 use table::contains;
 
 // How many entries stand left of the first universal from an index on; where there is none, all or more.
-fn first_universal(prefix: &[u16], from: usize) -> usize
+pub fn first_universal(prefix: &[u16], from: usize) -> usize
     ensures { λ r. ⌜ fromUniversal (drop from (now (prefix .entry))) ≡ drop r (now (prefix .entry)) ⌝ }
 {
     let mut i = from;
@@ -31,7 +31,7 @@ fn first_universal(prefix: &[u16], from: usize) -> usize
 }
 
 // Whether no variable of the clause stands behind place n.
-fn is_within(clause: &[u16], ranks: &[u16], n: usize) -> bool
+pub fn is_within(clause: &[u16], ranks: &[u16], n: usize) -> bool
     requires { ⌜ length (now ranks) ≡ 1024 ⌝ }
     ensures { λ r. ⌜ ((p : List ℕ) → now (ranks .entry) ≡ ranksOf p → goodEntries p ≡ true → r ≡ within p n (now (clause .entry))) ⌝ }
 {

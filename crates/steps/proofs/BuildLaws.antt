@@ -146,7 +146,8 @@ module _ (ψ : Formula) (xs : List (List ℕ)) (s : Bool) (r : Pushed) (t : List
       built-not (withRaws ψ (xs ++ f (ψ .prefix))) s t′
       (ap fits (raws-append ψ xs (f (ψ .prefix))) ∙ raws-not (withRaws ψ xs) (f (ψ .prefix)) (built-full (withRaws ψ xs) s r t k q))
 
-  pub then-done : (e : Counts) → r ≡ Done e → (r′ : Pushed) (t′ : List ℕ) → Built (withRaws (withRaws ψ xs) (f (withRaws ψ xs .prefix))) (e .second) r′ t′ → Built (withRaws ψ (xs ++ f (ψ .prefix))) s r′ t′
+  pub then-done : (e : Counts) → r ≡ Done e → (r′ : Pushed) (t′ : List ℕ)
+      → Built (withRaws (withRaws ψ xs) (f (withRaws ψ xs .prefix))) (e .second) r′ t′ → Built (withRaws ψ (xs ++ f (ψ .prefix))) s r′ t′
   then-done e q r′ t′ m = rw (built-second (withRaws ψ xs) s r t k e q, append) at m
     where
       append : withRaws (withRaws ψ xs) (f (withRaws ψ xs .prefix)) ≡ withRaws ψ (xs ++ f (ψ .prefix))

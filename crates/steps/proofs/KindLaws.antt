@@ -24,7 +24,7 @@ use Rattle.meaning.proofs.Literals.{var-opp}
 use Rattle.meaning.proofs.Prefix.{bound-numbers, mentioned-some, drop-none}
 use Rattle.meaning.proofs.Parts.{room-of, good-of, bound-all}
 
--- The entries and the literals of a well formed formula are in range -----------------------------------------------------------------
+-- The entries and the literals of a well formed formula are in range ---------------------------------------------------
 good-above : (p : List ℕ) → goodPrefix p ≡ true → allOf (λ q. leb 1 (var q)) p ≡ true
 unfolding goodPrefix allOf
 good-above [] g = refl

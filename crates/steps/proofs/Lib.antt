@@ -9,4 +9,6 @@ pub mod CopyLaws
 pub mod DecideLaws
 pub mod ResolveLaws
 pub mod ExpandPlaces
+pub mod ExpandPrefix
+pub mod ExpandClauses
 pub mod ExpandLaws

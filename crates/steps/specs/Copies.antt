@@ -22,10 +22,11 @@ withEntries ψ es = record { prefix = ψ .prefix ++ es; clauses = ψ .clauses }
 unfoldable pub copiesFrom : List ℕ → ℕ → ℕ → ℕ → List ℕ
 copiesFrom p left v m = map plain (take left (keepIf (λ w. not (mentions p w)) (upFrom v m)))
 
--- The clauses of step 7 for the universal v, where the inner existentials stand behind place s of the new prefix q, and each has
--- its copy n places further right: those that reach behind s with v false, then with v true and renamed; before them the others.
+-- The clauses by recipes, for the universal v: the inner existentials stand behind place s of the new prefix q, each with its
+-- copy n places further right. "then f with u false; then f with u true and every existential right of u renamed"
 unfoldable pub halvesBy : ℕ → ℕ → ℕ → List ℕ → List (List ℕ) → List (List ℕ)
 halvesBy v s n q cs = rawsBy (Far s (2 * v + 1)) (Drop (2 * v)) q 0 cs ++ rawsBy (Far s (2 * v)) (Copy (2 * v + 1) s n) q 0 cs
 
+-- "First the other clauses"
 unfoldable pub expandedBy : ℕ → ℕ → ℕ → List ℕ → List (List ℕ) → List (List ℕ)
 expandedBy v s n q cs = rawsBy (Near s) Same q 0 cs ++ halvesBy v s n q cs

@@ -19,14 +19,22 @@ add-negated : tie.Need-add-negated
 add-negated c = search needs
 
 add-all-requires : tie.Need-add-all-requires
-add-all-requires c κs = let s = c .before .before .before .before .before .before in (s .pre .0, (s .pre .1 .0, (s .pre .1 .1 .0, s .pre .1 .1 .1 .0)))
+add-all-requires c κs =
+    let s = c .before .before .before .before .before .before in
+    (s .pre .0, (s .pre .1 .0, (s .pre .1 .1 .0, s .pre .1 .1 .1 .0)))
 
 enum-known-e : tie.Need-enum-known-e
 enum-known-e c = search needs
 
 add-all-requires-2 : tie.Need-add-all-requires-2
-add-all-requires-2 c κs = let e = c .before .before .before in let k = e .before .before .before .before .before .before in let s = k .before .before .before .before .before .before .before in let h = s .pre .0 .holds in let i = s .pre .1 .0 .holds in let b = k .add-all .ensures (s .pre .0 .formula) (s .pre .1 .0 .formula) h i in
-    (s .pre .0, (held (built-done _ _ _ _ b _ (e .e .given .1)), (ready-after i (s .pre .1 .1 .0) _ _ _ _ b _ (e .e .given .1), k .add-all .kept .1 .1 .1 .1 .1 .1 .0 ∙ s .pre .1 .1 .1 .0)))
+add-all-requires-2 c κs =
+    let e = c .before .before .before in
+    let k = e .before .before .before .before .before .before in
+    let s = k .before .before .before .before .before .before .before in
+    let b = k .add-all .ensures (s .pre .0 .formula) (s .pre .1 .0 .formula) (s .pre .0 .holds) (s .pre .1 .0 .holds) in
+    let h = built-done _ _ _ _ b _ (e .e .given .1) in
+    let ready = ready-after (s .pre .1 .0 .holds) (s .pre .1 .1 .0) _ _ _ _ b _ (e .e .given .1) in
+    (s .pre .0, (held h, (ready, k .add-all .kept .1 .1 .1 .1 .1 .1 .0 ∙ s .pre .1 .1 .1 .0)))
 
 enum-told : tie.Need-enum-told
 enum-told c = search needs
@@ -38,7 +46,11 @@ same-length-2 : tie.Need-same-length-2
 same-length-2 c = search needs
 
 returns : tie.Need-returns
-returns c = let a = c .before .before .before .before in let e = a .before .before .before .before in let k = e .before .before .before .before .before .before in λ φ ψ h i. let b = k .add-all .ensures φ ψ h i in
+returns c =
+    let a = c .before .before .before .before in
+    let e = a .before .before .before .before in
+    let k = e .before .before .before .before .before .before in
+    λ φ ψ h i. let b = k .add-all .ensures φ ψ h i in
     halves-done _ _ _ ψ (φ .clauses) _ _ _ b _ (e .e .given .1) _ _ (a .add-all2 .ensures φ _ h (built-done _ _ _ _ b _ (e .e .given .1)))
 
 same-length-3 : tie.Need-same-length-3
@@ -48,7 +60,9 @@ same-length-4 : tie.Need-same-length-4
 same-length-4 c = search needs
 
 returns-2 : tie.Need-returns-2
-returns-2 c = let k = c .before .before .before .before .before .before in λ φ ψ h i. halves-full _ _ _ ψ (φ .clauses) _ _ _ (k .add-all .ensures φ ψ h i) (c .enum-told .given .1) _
+returns-2 c =
+    let k = c .before .before .before .before .before .before in
+    λ φ ψ h i. halves-full _ _ _ ψ (φ .clauses) _ _ _ (k .add-all .ensures φ ψ h i) (c .enum-told .given .1) _
 
 pub add-halves-spec : {M : Type 1} → statement M
 add-halves-spec =

@@ -1,0 +1,147 @@
+// "Take the first kind in the order 1 to 7 with a candidate": one function a kind, which passes on to the next.
+ghost use mathlib.Core.Path.{_≡_};
+ghost use Prim.Native.Nat.{ℕ, _≤_, _<_};
+ghost use mathlib.Core.Bool.{true, false};
+ghost use lib.ListN.{length};
+ghost use Rattle.meaning.specs.Formula.{Formula};
+ghost use Rattle.meaning.specs.Game.{emptyClause};
+ghost use Rattle.meaning.specs.WellFormed.{wellFormed};
+ghost use Rattle.rules.specs.Entry.{Kind, unit, pure, subsume, strengthen, equality, resolve, expand, code, entry};
+ghost use Rattle.rules.specs.Run as rules;
+ghost use Rattle.table.specs.Table.{tableOf, emptyFormula, Holds};
+ghost use Rattle.index.specs.Study.{Studied, Study, HeldWell};
+ghost use Rattle.weigh.specs.Weights.{NoneSubsumed};
+ghost use Rattle.choice.specs.Chosen.{nextAs, anyOfKind, chosenFrom, stuckAs};
+use crate::Best;
+use crate::End;
+use crate::Next;
+use crate::best::best_expand;
+use crate::best::best_resolve;
+use index::build_index;
+use permits::entry_of;
+use search::Found;
+use search::find_equality;
+use search::find_pure;
+use search::find_strengthen;
+use search::find_subsume;
+use search::find_unit;
+use table::Counts;
+use table::is_present;
+use table::rank_prefix;
+use table::zero;
+
+// No step counts: OUT OF ROOM exactly if one failed only for room.
+fn stuck(room: bool) -> Next
+    ensures { λ r. ⌜ r ≡ stuckAs room ⌝ }
+{
+    if room {
+        return Next::Over(End::OutOfRoom);
+    }
+    Next::Over(End::Finished)
+}
+
+fn choose_expand(
+    t: &[u16],
+    c: Counts,
+    ranks: &[u16],
+    index: &[u16],
+    allowance: usize,
+    room: bool,
+) -> Next
+    requires { ⌜ Study (now t) c (now ranks) (now index) × (allowance ≤ 1000) ⌝ }
+    ensures { λ r. ⌜ ((φ : Formula) → Studied φ (now (t .entry)) c (now (ranks .entry)) (now (index .entry)) → NoneSubsumed φ → room ≡ anyOfKind allowance φ resolve → r ≡ chosenFrom allowance φ expand) ⌝ }
+{
+    match best_expand(t, c, ranks, index, allowance) {
+        Best::Lightest(a) => Next::Step(entry_of(7, a, 0)),
+        Best::Nothing(too) => stuck(room || too),
+    }
+}
+
+fn choose_resolve(t: &[u16], c: Counts, ranks: &[u16], index: &[u16], allowance: usize) -> Next
+    requires { ⌜ Study (now t) c (now ranks) (now index) × (allowance ≤ 1000) ⌝ }
+    ensures { λ r. ⌜ ((φ : Formula) → Studied φ (now (t .entry)) c (now (ranks .entry)) (now (index .entry)) → NoneSubsumed φ → r ≡ chosenFrom allowance φ resolve) ⌝ }
+{
+    match best_resolve(t, c, ranks, index) {
+        Best::Lightest(a) => Next::Step(entry_of(6, a, 0)),
+        Best::Nothing(room) => choose_expand(t, c, ranks, index, allowance, room),
+    }
+}
+
+fn choose_equality(t: &[u16], c: Counts, ranks: &[u16], index: &[u16], allowance: usize) -> Next
+    requires { ⌜ Study (now t) c (now ranks) (now index) × (allowance ≤ 1000) ⌝ }
+    ensures { λ r. ⌜ ((φ : Formula) → Studied φ (now (t .entry)) c (now (ranks .entry)) (now (index .entry)) → NoneSubsumed φ → r ≡ chosenFrom allowance φ equality) ⌝ }
+{
+    match find_equality(t, c, index) {
+        Found::Pair(a, b) => Next::Step(entry_of(5, a, b)),
+        Found::Nothing => choose_resolve(t, c, ranks, index, allowance),
+    }
+}
+
+fn choose_strengthen(t: &[u16], c: Counts, ranks: &[u16], index: &[u16], allowance: usize) -> Next
+    requires { ⌜ Study (now t) c (now ranks) (now index) × (allowance ≤ 1000) ⌝ }
+    ensures { λ r. ⌜ ((φ : Formula) → Studied φ (now (t .entry)) c (now (ranks .entry)) (now (index .entry)) → NoneSubsumed φ → r ≡ chosenFrom allowance φ strengthen) ⌝ }
+{
+    match find_strengthen(t, c, ranks, index) {
+        Found::Pair(a, b) => Next::Step(entry_of(4, a, b)),
+        Found::Nothing => choose_equality(t, c, ranks, index, allowance),
+    }
+}
+
+fn choose_subsume(t: &[u16], c: Counts, ranks: &[u16], index: &[u16], allowance: usize) -> Next
+    requires { ⌜ Study (now t) c (now ranks) (now index) × (allowance ≤ 1000) ⌝ }
+    ensures { λ r. ⌜ ((φ : Formula) → Studied φ (now (t .entry)) c (now (ranks .entry)) (now (index .entry)) → emptyClause (φ .clauses) ≡ false → r ≡ chosenFrom allowance φ subsume) ⌝ }
+{
+    match find_subsume(t, c, index) {
+        Found::Pair(a, b) => Next::Step(entry_of(3, a, b)),
+        Found::Nothing => choose_strengthen(t, c, ranks, index, allowance),
+    }
+}
+
+fn choose_pure(t: &[u16], c: Counts, ranks: &[u16], index: &[u16], allowance: usize) -> Next
+    requires { ⌜ Study (now t) c (now ranks) (now index) × (allowance ≤ 1000) ⌝ }
+    ensures { λ r. ⌜ ((φ : Formula) → Studied φ (now (t .entry)) c (now (ranks .entry)) (now (index .entry)) → emptyClause (φ .clauses) ≡ false → r ≡ chosenFrom allowance φ pure) ⌝ }
+{
+    match find_pure(t, c, index) {
+        Found::Pair(a, b) => Next::Step(entry_of(2, a, b)),
+        Found::Nothing => choose_subsume(t, c, ranks, index, allowance),
+    }
+}
+
+fn choose_unit(t: &[u16], c: Counts, ranks: &[u16], index: &[u16], allowance: usize) -> Next
+    requires { ⌜ Study (now t) c (now ranks) (now index) × (allowance ≤ 1000) ⌝ }
+    ensures { λ r. ⌜ ((φ : Formula) → Studied φ (now (t .entry)) c (now (ranks .entry)) (now (index .entry)) → emptyClause (φ .clauses) ≡ false → r ≡ chosenFrom allowance φ unit) ⌝ }
+{
+    match find_unit(t, c) {
+        Found::Pair(a, b) => Next::Step(entry_of(1, a, b)),
+        Found::Nothing => choose_pure(t, c, ranks, index, allowance),
+    }
+}
+
+// "An empty clause, FALSE; no clause, TRUE; else": the index goes into the spare table.
+fn decide(t: &[u16], c: Counts, spare: &mut [u16], allowance: usize) -> Next
+    requires { ⌜ HeldWell (now t) c × (length (now spare) ≡ 11261) × (allowance ≤ 1000) ⌝ }
+    ensures { λ r. ⌜ ((φ : Formula) → Holds φ (now (t .entry)) c → wellFormed φ ≡ true → r ≡ nextAs (rules.next allowance φ)) ⌝ }
+{
+    if is_present(t, c, &t[..0]) {
+        return Next::Over(End::False);
+    }
+    if c.clauses == 0 {
+        return Next::Over(End::True);
+    }
+    let n = c.variables;
+    let mut ranks = [0u16; 1024];
+    rank_prefix(&t[..n], &mut ranks);
+    build_index(t, c, spare);
+    choose_unit(t, c, &ranks, spare, allowance)
+}
+
+// What the run does next. The spare table ends zero, whatever it held.
+pub fn choose(t: &[u16], c: Counts, spare: &mut [u16], allowance: usize) -> Next
+    requires { ⌜ HeldWell (now t) c × (length (now spare) ≡ 11261) × (allowance ≤ 1000) ⌝ }
+    ensures { λ r. ⌜ ((φ : Formula) → Holds φ (now (t .entry)) c → wellFormed φ ≡ true → r ≡ nextAs (rules.next allowance φ)) ⌝ }
+    ensures { λ _. ⌜ now (spare .exit) ≡ tableOf emptyFormula ⌝ }
+{
+    let r = decide(t, c, spare, allowance);
+    zero(spare);
+    r
+}

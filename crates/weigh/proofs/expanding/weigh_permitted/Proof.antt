@@ -1,0 +1,53 @@
+-- The prefix is a part of the table, and what stands right of a begins at its place.
+-- Assumes nothing.
+use mathlib.Core.Path.{sym}
+use native.Mathlib.Omega.{arith}
+use lib.ListN.{take}
+use lib.Seq.{length-take-le}
+use borrow.Author.Needs.{needs}
+use Rattle.table.proofs.HoldLaws.{bounds}
+use Rattle.permits.proofs.PlaceLaws.{entries-of}
+use Rattle.weigh.proofs.ExpandLoops.{existentials-few, take-few}
+use Rattle.weigh.proofs.ExpandWeight.{weighed-held}
+use Rattle.weigh.proofs.expanding.weigh_permitted.Statement.{statement}
+use Rattle.weigh.proofs.expanding.weigh_permitted.Tie as tie
+
+place-of-requires : tie.Need-place-of-requires
+place-of-requires c κs = search needs
+
+slice-aggregate-count-existentials : tie.Need-slice-aggregate-count-existentials
+slice-aggregate-count-existentials c = let b = bounds (c .before .before .before .before .pre .0) in sym (length-take-le _ _ (omega arith))
+
+count-existentials-requires : tie.Need-count-existentials-requires
+count-existentials-requires c κs =
+    let s = c .before .before .before .before in
+    take-few (s .args .c .variables) 1023 (s .args .t .now) (bounds (s .pre .0) .variables)
+
+expanded-size-requires : tie.Need-expanded-size-requires
+expanded-size-requires c κs = search needs
+
+weigh-size-requires : tie.Need-weigh-size-requires
+weigh-size-requires c κs =
+    let k = c .before in
+    let s = k .before .before .before .before .before in
+    let v = bounds (s .pre .0) .variables in
+    let few = take-few (s .args .c .variables) 1023 (s .args .t .now) v in
+    (s .pre .1 .1, v, existentials-few (take (s .args .c .variables) (s .args .t .now)) (k .before .before .place-of .result) _ 1023 (k .count-existentials .ensures) few, c .expanded-size .ensures .0)
+
+returns : tie.Need-returns
+returns c =
+    let s = c .before in
+    let k = s .before in
+    λ φ h w e none ok. weighed-held h w _ _ ok none _ _ _ (k .before .before .place-of .ensures (φ .prefix) e (entries-of φ w (h .fitting))) (k .count-existentials .ensures)
+    (s .expanded-size .ensures .1 φ h w e) _ (c .weigh-size .ensures)
+
+pub weigh-permitted-spec : {M : Type 1} → statement M
+weigh-permitted-spec =
+    tie.close
+    (tie.spec
+    place-of-requires
+    slice-aggregate-count-existentials
+    count-existentials-requires
+    expanded-size-requires
+    weigh-size-requires
+    returns)
