@@ -152,7 +152,7 @@ some-clause [] h = absurd (h refl)
 some-clause (c ∷ cs) h = refl
 
 module _ (E : ℕ) (φ : Formula) where
--- At each point ------------------------------------------------------------------------------------------------
+  -- At each point ------------------------------------------------------------------------------------------------
   pub next-false : emptyClause (φ .clauses) ≡ true → nextAs (over isFALSE) ≡ nextAs (rules.next E φ)
   unfolding rules.next
   next-false e = rw e

@@ -1,2 +1,4 @@
 pub mod BestLaws
+pub mod HandLaws
 pub mod KindLaws
+pub mod TurnLaws

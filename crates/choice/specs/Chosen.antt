@@ -6,12 +6,17 @@ use mathlib.Core.Bool.{Bool, true, false, cond}
 use mathlib.Core.List.{List, [], _∷_}
 use Rattle.meaning.specs.Lists.{anyOf}
 use Rattle.meaning.specs.Formula.{Formula}
-use Rattle.meaning.specs.WellFormed.{weight}
+use Rattle.meaning.specs.Game.{emptyClause}
+use Rattle.meaning.specs.WellFormed.{weight, wellFormed}
 use Rattle.rules.specs.Entry.{Kind, unit, pure, subsume, strengthen, equality, resolve, expand, entry}
 use Rattle.rules.specs.Choice.{Found, none, found, blockedCall, firsts, candidate, stuck, chooseOf}
 use Rattle.rules.specs.Run as rules
 use Rattle.rules.specs.Run.{isTRUE, isFALSE, finished, outOfRoom, over, step}
-use Rattle.weigh.specs.Weights.{weighedStep}
+use Rattle.table.specs.Table.{Holds}
+use Rattle.table.specs.Ranks.{ranksOf}
+use Rattle.table.specs.declared.Counts.{Counts}
+use Rattle.index.specs.Study.{Studied}
+use Rattle.weigh.specs.Weights.{weighedStep, NoneSubsumed}
 use Rattle.weigh.specs.declared.Weighed.{Weighed}
 use Rattle.weigh.specs.declared.Weighed.the-variants.{Over, Fitting, Wide}
 use Rattle.choice.specs.declared.End.{End}
@@ -88,3 +93,27 @@ chosenFrom E φ k = nextAs (rules.nextOf (chooseOf E φ (k ∷ kindsAfter k)))
 
 unfoldable pub stuckAs : Bool → Next
 stuckAs room = nextAs (rules.nextOf (stuck room))
+
+-- What is at hand, kind by kind --------------------------------------------------------------------------------
+-- for kinds 1 to 3: no clause is empty
+pub record Busy (t : List ℕ) (c : Counts) (ranks index : List ℕ) : Type 0 where
+  pub formula : Formula
+  pub studied : Studied formula t c ranks index
+  pub no-empty : emptyClause (formula .clauses) ≡ false
+
+-- for kinds 4 to 6: no clause is a part of another
+pub record Apart (t : List ℕ) (c : Counts) (ranks index : List ℕ) : Type 0 where
+  pub formula : Formula
+  pub studied : Studied formula t c ranks index
+  pub apart : NoneSubsumed formula
+
+-- for kind 7 the index is not needed
+pub record Ranks (φ : Formula) (t : List ℕ) (c : Counts) (ranks : List ℕ) : Type 0 where
+  pub holds : Holds φ t c
+  pub well : wellFormed φ ≡ true
+  pub ranked : ranks ≡ ranksOf (φ .prefix)
+  pub apart : NoneSubsumed φ
+
+pub record Ranked (t : List ℕ) (c : Counts) (ranks : List ℕ) : Type 0 where
+  pub formula : Formula
+  pub ranks-of : Ranks formula t c ranks

@@ -1,7 +1,7 @@
 // "Take the first kind in the order 1 to 7 with a candidate": one function a kind, which passes on to the next.
 ghost use mathlib.Core.Path.{_≡_};
 ghost use Prim.Native.Nat.{ℕ, _≤_, _<_};
-ghost use mathlib.Core.Bool.{true, false};
+ghost use mathlib.Core.Bool.{true, false, _||_};
 ghost use lib.ListN.{length};
 ghost use Rattle.meaning.specs.Formula.{Formula};
 ghost use Rattle.meaning.specs.Game.{emptyClause};
@@ -9,14 +9,15 @@ ghost use Rattle.meaning.specs.WellFormed.{wellFormed};
 ghost use Rattle.rules.specs.Entry.{Kind, unit, pure, subsume, strengthen, equality, resolve, expand, code, entry};
 ghost use Rattle.rules.specs.Run as rules;
 ghost use Rattle.table.specs.Table.{tableOf, emptyFormula, Holds};
-ghost use Rattle.index.specs.Study.{Studied, Study, HeldWell};
+ghost use Rattle.index.specs.Study.{Studied};
+ghost use Rattle.index.specs.Build.{HeldWell};
 ghost use Rattle.weigh.specs.Weights.{NoneSubsumed};
-ghost use Rattle.choice.specs.Chosen.{nextAs, anyOfKind, chosenFrom, stuckAs};
+ghost use Rattle.choice.specs.Chosen.{nextAs, anyOfKind, chosenFrom, stuckAs, Busy, Apart, Ranks, Ranked};
 use crate::Best;
 use crate::End;
 use crate::Next;
-use crate::best::best_expand;
-use crate::best::best_resolve;
+use crate::lightest::best_expand;
+use crate::lightest::best_resolve;
 use index::build_index;
 use permits::entry_of;
 use search::Found;
@@ -30,45 +31,41 @@ use table::is_present;
 use table::rank_prefix;
 use table::zero;
 
-// No step counts: OUT OF ROOM exactly if one failed only for room.
-fn stuck(room: bool) -> Next
-    ensures { λ r. ⌜ r ≡ stuckAs room ⌝ }
+// No step counts: OUT OF ROOM exactly if one of kind 6 or one of kind 7 failed only for room.
+fn stuck(room: bool, too: bool) -> Next
+    ensures { λ r. ⌜ r ≡ stuckAs (room || too) ⌝ }
 {
     if room {
+        return Next::Over(End::OutOfRoom);
+    }
+    if too {
         return Next::Over(End::OutOfRoom);
     }
     Next::Over(End::Finished)
 }
 
-fn choose_expand(
-    t: &[u16],
-    c: Counts,
-    ranks: &[u16],
-    index: &[u16],
-    allowance: usize,
-    room: bool,
-) -> Next
-    requires { ⌜ Study (now t) c (now ranks) (now index) × (allowance ≤ 1000) ⌝ }
-    ensures { λ r. ⌜ ((φ : Formula) → Studied φ (now (t .entry)) c (now (ranks .entry)) (now (index .entry)) → NoneSubsumed φ → room ≡ anyOfKind allowance φ resolve → r ≡ chosenFrom allowance φ expand) ⌝ }
+fn choose_expand(t: &[u16], c: Counts, ranks: &[u16], allowance: usize, room: bool) -> Next
+    requires { ⌜ Ranked (now t) c (now ranks) × (allowance ≤ 1000) ⌝ }
+    ensures { λ r. ⌜ ((φ : Formula) → Ranks φ (now (t .entry)) c (now (ranks .entry)) → room ≡ anyOfKind allowance φ resolve → r ≡ chosenFrom allowance φ expand) ⌝ }
 {
-    match best_expand(t, c, ranks, index, allowance) {
+    match best_expand(t, c, ranks, allowance) {
         Best::Lightest(a) => Next::Step(entry_of(7, a, 0)),
-        Best::Nothing(too) => stuck(room || too),
+        Best::Nothing(too) => stuck(room, too),
     }
 }
 
 fn choose_resolve(t: &[u16], c: Counts, ranks: &[u16], index: &[u16], allowance: usize) -> Next
-    requires { ⌜ Study (now t) c (now ranks) (now index) × (allowance ≤ 1000) ⌝ }
+    requires { ⌜ Apart (now t) c (now ranks) (now index) × (allowance ≤ 1000) ⌝ }
     ensures { λ r. ⌜ ((φ : Formula) → Studied φ (now (t .entry)) c (now (ranks .entry)) (now (index .entry)) → NoneSubsumed φ → r ≡ chosenFrom allowance φ resolve) ⌝ }
 {
     match best_resolve(t, c, ranks, index) {
         Best::Lightest(a) => Next::Step(entry_of(6, a, 0)),
-        Best::Nothing(room) => choose_expand(t, c, ranks, index, allowance, room),
+        Best::Nothing(room) => choose_expand(t, c, ranks, allowance, room),
     }
 }
 
 fn choose_equality(t: &[u16], c: Counts, ranks: &[u16], index: &[u16], allowance: usize) -> Next
-    requires { ⌜ Study (now t) c (now ranks) (now index) × (allowance ≤ 1000) ⌝ }
+    requires { ⌜ Apart (now t) c (now ranks) (now index) × (allowance ≤ 1000) ⌝ }
     ensures { λ r. ⌜ ((φ : Formula) → Studied φ (now (t .entry)) c (now (ranks .entry)) (now (index .entry)) → NoneSubsumed φ → r ≡ chosenFrom allowance φ equality) ⌝ }
 {
     match find_equality(t, c, index) {
@@ -78,7 +75,7 @@ fn choose_equality(t: &[u16], c: Counts, ranks: &[u16], index: &[u16], allowance
 }
 
 fn choose_strengthen(t: &[u16], c: Counts, ranks: &[u16], index: &[u16], allowance: usize) -> Next
-    requires { ⌜ Study (now t) c (now ranks) (now index) × (allowance ≤ 1000) ⌝ }
+    requires { ⌜ Apart (now t) c (now ranks) (now index) × (allowance ≤ 1000) ⌝ }
     ensures { λ r. ⌜ ((φ : Formula) → Studied φ (now (t .entry)) c (now (ranks .entry)) (now (index .entry)) → NoneSubsumed φ → r ≡ chosenFrom allowance φ strengthen) ⌝ }
 {
     match find_strengthen(t, c, ranks, index) {
@@ -88,7 +85,7 @@ fn choose_strengthen(t: &[u16], c: Counts, ranks: &[u16], index: &[u16], allowan
 }
 
 fn choose_subsume(t: &[u16], c: Counts, ranks: &[u16], index: &[u16], allowance: usize) -> Next
-    requires { ⌜ Study (now t) c (now ranks) (now index) × (allowance ≤ 1000) ⌝ }
+    requires { ⌜ Busy (now t) c (now ranks) (now index) × (allowance ≤ 1000) ⌝ }
     ensures { λ r. ⌜ ((φ : Formula) → Studied φ (now (t .entry)) c (now (ranks .entry)) (now (index .entry)) → emptyClause (φ .clauses) ≡ false → r ≡ chosenFrom allowance φ subsume) ⌝ }
 {
     match find_subsume(t, c, index) {
@@ -98,7 +95,7 @@ fn choose_subsume(t: &[u16], c: Counts, ranks: &[u16], index: &[u16], allowance:
 }
 
 fn choose_pure(t: &[u16], c: Counts, ranks: &[u16], index: &[u16], allowance: usize) -> Next
-    requires { ⌜ Study (now t) c (now ranks) (now index) × (allowance ≤ 1000) ⌝ }
+    requires { ⌜ Busy (now t) c (now ranks) (now index) × (allowance ≤ 1000) ⌝ }
     ensures { λ r. ⌜ ((φ : Formula) → Studied φ (now (t .entry)) c (now (ranks .entry)) (now (index .entry)) → emptyClause (φ .clauses) ≡ false → r ≡ chosenFrom allowance φ pure) ⌝ }
 {
     match find_pure(t, c, index) {
@@ -108,7 +105,7 @@ fn choose_pure(t: &[u16], c: Counts, ranks: &[u16], index: &[u16], allowance: us
 }
 
 fn choose_unit(t: &[u16], c: Counts, ranks: &[u16], index: &[u16], allowance: usize) -> Next
-    requires { ⌜ Study (now t) c (now ranks) (now index) × (allowance ≤ 1000) ⌝ }
+    requires { ⌜ Busy (now t) c (now ranks) (now index) × (allowance ≤ 1000) ⌝ }
     ensures { λ r. ⌜ ((φ : Formula) → Studied φ (now (t .entry)) c (now (ranks .entry)) (now (index .entry)) → emptyClause (φ .clauses) ≡ false → r ≡ chosenFrom allowance φ unit) ⌝ }
 {
     match find_unit(t, c) {

@@ -1,7 +1,7 @@
 // Which step the run takes next (document 01, "The run").
-mod best;
+mod ahead;
 mod kinds;
-mod standing;
+mod lightest;
 
 pub use kinds::choose;
 

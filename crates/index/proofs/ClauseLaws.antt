@@ -1,18 +1,20 @@
 -- The clauses with a literal: which they are, how many, and that they are there exactly if the literal occurs.
 -- Assumes nothing.
-use Prim.Native.Nat.{ℕ, suc, _+_, _≤_}
+use Prim.Native.Nat.{ℕ, suc, _+_, _≤_, _<_}
 use mathlib.Core.Path.{_≡_, refl, sym, ap, _∙_}
 use mathlib.Core.Bool.{Bool, true, false, _||_, not, cond}
 use mathlib.Core.List.{List, [], _∷_, _++_, map}
 use lib.ListN.{length, getD, length-append, length-map}
 use lib.Seq.{append-snoc, getD-at}
 use lib.Dec.{eqb, ltb}
-use borrow.Author.Tests.{lt-ltb, ne-eqb}
+use borrow.Author.Tests.{lt-ltb, ltb-true, ne-eqb}
 use native.Mathlib.Omega.{arith}
 use native.Mathlib.Nat.{add-zero, add-suc, suc-add}
 use Rattle.meaning.specs.Lists.{allOf, anyOf, keepIf, has, upFrom}
 use Rattle.index.specs.Index.{clausesFrom, clausesWith}
+use Rattle.meaning.proofs.Lists.{all-kept}
 use Rattle.meaning.proofs.Weight.{keep-length}
+use Rattle.table.proofs.LoopLaws.{all-getD}
 
 -- As a selection: from clause k on, where the list `before` has the k clauses before ----------------------------
 next-length : (before : List (List ℕ)) (c : List ℕ) (k : ℕ) → length before ≡ k → length (before ++ (c ∷ [])) ≡ suc k
@@ -73,6 +75,14 @@ from-below l k m (c ∷ cs) e = go (has l c) (from-below l (suc k) m cs (omega a
 pub with-below : (cs : List (List ℕ)) (l : ℕ) → allOf (λ i. ltb i (length cs)) (clausesWith cs l) ≡ true
 unfolding clausesWith
 with-below cs l = from-below l 0 (length cs) cs (omega arith)
+
+pub with-at : (cs : List (List ℕ)) (l j : ℕ) → j < length (clausesWith cs l) → getD (clausesWith cs l) j 0 < length cs
+with-at cs l j h =
+    ltb-true (getD (clausesWith cs l) j 0) (length cs) (all-getD (λ i. ltb i (length cs)) 0 (clausesWith cs l) j (with-below cs l) h)
+
+-- and that clause has the literal
+pub with-has : (cs : List (List ℕ)) (l : ℕ) → allOf (λ i. has l (getD cs i [])) (clausesWith cs l) ≡ true
+with-has cs l = rw (with-kept cs l) (all-kept (λ i. has l (getD cs i [])) (upFrom 0 (length cs)))
 
 -- the literal occurs exactly if there are some
 kept-some : (l : ℕ) (cs : List (List ℕ)) → anyOf (has l) cs ≡ not (eqb (length (keepIf (has l) cs)) 0)

@@ -14,7 +14,7 @@ use Rattle.table.specs.Table.{allLiterals, pad, Holds}
 use Rattle.table.specs.Ranks.{small}
 use Rattle.table.specs.declared.Counts.{Counts}
 use Rattle.index.specs.Index.{clausesFrom, clausesWith, listsBelow, listStart, listEnd, placed, indexOf}
-use Rattle.index.specs.Build.{lower, startsIn, withNumber, Filled, Listable, Turn, Turned}
+use Rattle.index.specs.Build.{lower, startsIn, withNumber, HeldWell, Filled, Listable, Turn, Turned}
 use Rattle.meaning.proofs.Basics.{and-l, and-r, and-i}
 use Rattle.meaning.proofs.Lists.{all-append}
 use Rattle.table.proofs.HoldLaws.{room, count-clauses}
@@ -31,8 +31,10 @@ use Rattle.index.proofs.PutLaws.{put-fits, put-number}
 
 -- The clauses of a formula ---------------------------------------------------------------------------------------
 pub listable : {φ : Formula} {t : List ℕ} {c : Counts} → Holds φ t c → wellFormed φ ≡ true → Listable (φ .clauses)
-listable {φ} {t} {c} h w =
-    record { rise = rise-all φ w; low = small-all φ w (h .fitting); clauses = room h .clauses; literals = room h .literals }
+listable {φ} {t} {c} h w = record { rise = rise-all φ w; low = small-all φ w (h .fitting); literals = room h .literals }
+
+pub held-well : {φ : Formula} {t : List ℕ} {c : Counts} → Holds φ t c → wellFormed φ ≡ true → HeldWell t c
+held-well {φ} {t} {c} h w = record { formula = φ; holds = h; well = w }
 
 -- Before any clause ----------------------------------------------------------------------------------------------
 pub fill-start : (cs : List (List ℕ)) (index : List ℕ) → Listable cs → index ≡ startsIn (allLiterals cs) → Filled cs (clausesWith (take 0 cs)) index

@@ -8,7 +8,7 @@ use lib.Dec.{eqb, ltb}
 use lib.ListN.{length, getD, take, drop, set, replicate}
 use Rattle.meaning.specs.Lists.{allOf, keepIf}
 use Rattle.meaning.specs.Formula.{Formula}
-use Rattle.meaning.specs.WellFormed.{ascends, wellFormed, literals, maxClauses, maxLiterals}
+use Rattle.meaning.specs.WellFormed.{ascends, wellFormed, literals, maxLiterals}
 use Rattle.table.specs.Table.{Holds}
 use Rattle.table.specs.Ranks.{small}
 use Rattle.table.specs.declared.Counts.{Counts}
@@ -52,7 +52,6 @@ pub record Filled (cs : List (List ℕ)) (list : ℕ → List ℕ) (index : List
 pub record Listable (cs : List (List ℕ)) : Type 0 where
   pub rise : allOf ascends cs ≡ true
   pub low : allOf (allOf small) cs ≡ true
-  pub clauses : length cs ≤ maxClauses
   pub literals : literals cs ≤ maxLiterals
 
 -- clause i of cs is the next to be put

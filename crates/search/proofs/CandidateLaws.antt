@@ -2,14 +2,14 @@
 -- Assumes nothing.
 use Prim.Native.Nat.{ℕ, zero, suc, _+_, _/_, _≤_, _<_}
 use mathlib.Core.Path.{_≡_, refl, sym, ap, _∙_, fun-ext}
-use mathlib.Core.Bool.{Bool, true, false, _&&_, _||_, not}
+use mathlib.Core.Bool.{Bool, true, false, _&&_}
 use mathlib.Core.List.{List}
 use lib.ListN.{length, getD, drop, length-map, List·getD-map}
 use native.Mathlib.Omega.{arith}
 use native.Mathlib.Nat.{zero-add}
 use Rattle.meaning.specs.Lists.{upFrom}
 use Rattle.meaning.specs.Formula.{Formula, var}
-use Rattle.meaning.specs.WellFormed.{weight, fits}
+use Rattle.meaning.specs.WellFormed.{weight}
 use Rattle.rules.specs.Entry.{Kind, unit, pure, subsume, strengthen, equality, resolve, expand, usesB}
 use Rattle.rules.specs.Step.{permitted, resultOf}
 use Rattle.rules.specs.Choice as rules
@@ -52,15 +52,15 @@ unfolding candidate candidateFrom
 from-start E φ k e =
     rw e (ap (λ (t : ℕ → ℕ → Bool). firstPair t (firsts φ k) (seconds φ k)) (fun-ext (λ a. fun-ext (λ b. counts-if E φ k a b e))))
 
--- in a kind that has no use for b, the first b is 0
-module _ (φ : Formula) (k : Kind) (a : ℕ) (no-b : usesB k ≡ false) where
-  pub only-none : permitted φ k a 0 ≡ false → Nothing ≡ foundAs (firstFor φ k a)
+-- in a kind that has no use for b, the first b is 0; m is what the test says
+module _ (φ : Formula) (k : Kind) (a : ℕ) (no-b : usesB k ≡ false) (m : Bool) (is : m ≡ permitted φ k a 0) where
+  pub only-none : m ≡ false → Nothing ≡ foundAs (firstFor φ k a)
   unfolding firstFor seconds firstB foundAs
-  only-none e = rw (no-b, e)
+  only-none e = rw (no-b, ← is, e)
 
-  pub only-found : permitted φ k a 0 ≡ true → Pair a 0 ≡ foundAs (firstFor φ k a)
+  pub only-found : m ≡ true → Pair a 0 ≡ foundAs (firstFor φ k a)
   unfolding firstFor seconds firstB foundAs
-  only-found e = rw (no-b, e)
+  only-found e = rw (no-b, ← is, e)
 
 -- The loop over a ----------------------------------------------------------------------------------------------
 -- there are n of them, and that at index i is at i

@@ -17,7 +17,7 @@ use Rattle.rules.specs.Choice.{none, found, orElse, firstB, firstPair}
 use Rattle.search.specs.Candidates.{foundAs, lowerOf}
 use Rattle.search.specs.declared.Found.{Found}
 use Rattle.search.specs.declared.Found.the-variants.{Nothing, Pair}
-use Rattle.meaning.proofs.Basics.{by-cases, clash, or-false}
+use Rattle.meaning.proofs.Basics.{by-cases, clash}
 
 -- What an answer tells -----------------------------------------------------------------------------------------
 pub told-none : (x : rules.Found) → foundAs x ≡ Nothing → x ≡ none
@@ -25,15 +25,16 @@ unfolding foundAs
 told-none none e = refl
 told-none (found a b) e = absurd (let z : _≡_ {A = ℕ} 0 1 = cc in omega arith)
 
--- The loop over b: what is left of the list decides ------------------------------------------------------------
+-- The loop over b: what is left of the list decides, and m is what the test says of the next ----------------------
 module _ (t : ℕ → Bool) (a : ℕ) (s : List ℕ) (i : ℕ) {r : rules.Found} (inv : r ≡ firstB t a (drop i s)) where
-  pub b-next : i < length s → t (getD s i 0) ≡ false → r ≡ firstB t a (drop (i + 1) s)
-  unfolding firstB
-  b-next h e = inv ∙ rw (add-one, drop-cons s i 0, e)
+  module _ (h : i < length s) (m : Bool) (is : m ≡ t (getD s i 0)) where
+    pub b-next : m ≡ false → r ≡ firstB t a (drop (i + 1) s)
+    unfolding firstB
+    b-next e = inv ∙ rw (add-one, drop-cons s i 0, ← is, e)
 
-  pub b-found : i < length s → t (getD s i 0) ≡ true → Pair a (getD s i 0) ≡ foundAs r
-  unfolding firstB foundAs
-  b-found h e = sym (ap foundAs inv ∙ rw (drop-cons s i 0, e))
+    pub b-found : m ≡ true → Pair a (getD s i 0) ≡ foundAs r
+    unfolding firstB foundAs
+    b-found e = sym (ap foundAs inv ∙ rw (drop-cons s i 0, ← is, e))
 
   pub b-end : length s ≤ i → Nothing ≡ foundAs r
   unfolding firstB foundAs
@@ -48,7 +49,9 @@ module _ (t : ℕ → ℕ → Bool) (l bs : List ℕ) (i : ℕ) {r : rules.Found
 
     pub a-found : (x y : ℕ) → f ≡ Pair x y → f ≡ foundAs r
     unfolding firstPair orElse foundAs
-    a-found x y e = is ∙ sym (ap foundAs inv ∙ rw (drop-cons l i 0) (go (firstB (t (getD l i 0)) (getD l i 0) bs) (firstPair t (drop (suc i) l) bs) (sym is ∙ e)))
+    a-found x y e =
+        is ∙ sym (ap foundAs inv ∙ rw (drop-cons l i 0)
+        (go (firstB (t (getD l i 0)) (getD l i 0) bs) (firstPair t (drop (suc i) l) bs) (sym is ∙ e)))
       where
         go : (p q : rules.Found) → foundAs p ≡ Pair x y → foundAs (orElse p q) ≡ foundAs p
         go none q k = absurd (let z : _≡_ {A = ℕ} 0 1 = cc in omega arith)
@@ -65,7 +68,8 @@ unfolding firstB keepIf
 first-among t g a [] h = refl
 first-among t g a (b ∷ l) h = go (g b) (t b) (h b) refl (first-among t g a l h)
   where
-    go : (x y : Bool) → (y ≡ true → x ≡ true) → t b ≡ y → firstB t a (keepIf g l) ≡ firstB t a l → firstB t a (cond x (b ∷ keepIf g l) (keepIf g l)) ≡ cond y (found a b) (firstB t a l)
+    go : (x y : Bool) → (y ≡ true → x ≡ true) → t b ≡ y → firstB t a (keepIf g l) ≡ firstB t a l
+        → firstB t a (cond x (b ∷ keepIf g l) (keepIf g l)) ≡ cond y (found a b) (firstB t a l)
     go true true k e ih = rw e
     go true false k e ih = rw e ih
     go false true k e ih = clash refl (sym (k refl))
@@ -95,10 +99,13 @@ least t a s (suc n) = go (t s) (firstB t a (upFrom (suc s) n)) (least t a (suc s
     go false (found c d) h = omega arith
 
 -- the lowest b that passes one of two tests is the lower of the two lowest
-pub first-either : (f g : ℕ → Bool) (a s n : ℕ) → foundAs (firstB (λ b. f b || g b) a (upFrom s n)) ≡ lowerOf (foundAs (firstB f a (upFrom s n))) (foundAs (firstB g a (upFrom s n)))
+pub first-either : (f g : ℕ → Bool) (a s n : ℕ)
+    → foundAs (firstB (λ b. f b || g b) a (upFrom s n)) ≡ lowerOf (foundAs (firstB f a (upFrom s n))) (foundAs (firstB g a (upFrom s n)))
 unfolding firstB upFrom foundAs lowerOf
 first-either f g a s zero = refl
-first-either f g a s (suc n) = go (f s) (g s) (firstB f a (upFrom (suc s) n)) (firstB g a (upFrom (suc s) n)) (least f a (suc s) n) (least g a (suc s) n) (first-either f g a (suc s) n)
+first-either f g a s (suc n) =
+    go (f s) (g s) (firstB f a (upFrom (suc s) n)) (firstB g a (upFrom (suc s) n)) (least f a (suc s) n) (least g a (suc s) n)
+    (first-either f g a (suc s) n)
   where
     rest : rules.Found
     rest = firstB (λ b. f b || g b) a (upFrom (suc s) n)

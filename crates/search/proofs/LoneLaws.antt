@@ -44,6 +44,6 @@ module _ {φ : Formula} {t : List ℕ} {c : Counts} (h : Holds φ t c) (i : ℕ)
       any-at (λ q. eqb (var q) v) 0 (φ .prefix) i (omega (arith, count-variables h)) (eqb-eq (ap (λ (q : ℕ). q / 2) (entry-at h i l)))
 
   pub pure-is : (r : Bool) → r ≡ not (occurs (plain (getD t i 0 / 2)) (φ .clauses) && occurs (negated (getD t i 0 / 2)) (φ .clauses))
-      → purePermitted φ (getD t i 0 / 2) ≡ r
+      → r ≡ purePermitted φ (getD t i 0 / 2)
   unfolding purePermitted
-  pure-is r e = rw there (sym e)
+  pure-is r e = rw there e

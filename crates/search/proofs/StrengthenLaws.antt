@@ -2,7 +2,7 @@
 -- Assumes nothing.
 use Prim.Native.Nat.{ℕ, zero, suc, _+_, _-_, _/_, _≤_, _<_}
 use mathlib.Core.Path.{_≡_, refl, sym, ap, _∙_}
-use mathlib.Core.Bool.{Bool, true, false, _&&_, _||_, not, cond}
+use mathlib.Core.Bool.{Bool, true, false, _&&_, not}
 use mathlib.Core.List.{List, [], _∷_}
 use lib.ListN.{length, getD, take, drop}
 use lib.Dec.{eqb, ltb}
@@ -23,7 +23,7 @@ use Rattle.index.specs.Index.{clausesWith}
 use Rattle.search.specs.Candidates.{foundAs, firstFor, strengthensBy, Strong, marks}
 use Rattle.search.specs.declared.Found.{Found}
 use Rattle.search.specs.declared.Found.the-variants.{Nothing}
-use Rattle.meaning.proofs.Basics.{by-cases, and-l, and-r, and-i, or-il, or-ir, or-elim, not-true, eqb-true, eqb-eq, eqb-ne, eqb-self}
+use Rattle.meaning.proofs.Basics.{and-l, and-r, or-il, or-ir, or-elim, eqb-true, eqb-eq, eqb-ne, eqb-self}
 use Rattle.meaning.proofs.Lists.{all-has, all-le, keep-all, has-keep}
 use Rattle.table.proofs.ListLaws.{tail-mid}
 use Rattle.table.proofs.LoopLaws.{all-getD}
@@ -41,13 +41,15 @@ unfolding partOf without allOf keepIf ascends
 others-split [] y i up h = absurd (not-suc-le-zero h)
 others-split (l ∷ x) y zero up h =
     rw (eqb-self l)
-    (ap (λ (z : List ℕ). partOf z y) (keep-all (λ k. not (eqb l k)) x (all-le (λ k. ltb (var l) (var k)) (λ k. not (eqb l k)) x apart (search and-l))))
+    (ap (λ (z : List ℕ). partOf z y)
+    (keep-all (λ k. not (eqb l k)) x (all-le (λ k. ltb (var l) (var k)) (λ k. not (eqb l k)) x apart (search and-l))))
   where
     apart : (k : ℕ) → ltb (var l) (var k) ≡ true → not (eqb l k) ≡ true
     apart k m = let n = ltb-true (var l) (var k) m in ap not (eqb-ne l k (λ e. omega (arith, ap var e)))
 others-split (l ∷ x) y (suc i) up h =
     rw other
-    (ap (λ (b : Bool). has l y && b) (others-split x y i (search and-r) (le-of-suc-le-suc h)) ∙ assoc (has l y) (partOf (take i x) y) (partOf (drop (suc i) x) y))
+    (ap (λ (b : Bool). has l y && b) (others-split x y i (search and-r) (le-of-suc-le-suc h))
+    ∙ assoc (has l y) (partOf (take i x) y) (partOf (drop (suc i) x) y))
   where
     other : eqb (getD x i 0) l ≡ false
     other =
@@ -102,7 +104,8 @@ strong-none φ x l a s e is n =
     and-false true = refl
     and-false false = refl
 
-pub strong-is : (φ : Formula) (x : List ℕ) (i : ℕ) (e : Bool) → e ≡ existential (φ .prefix) (getD x i 0 / 2) → e ≡ true → ascends x ≡ true → Strong φ x i
+pub strong-is : (φ : Formula) (x : List ℕ) (i : ℕ) (e : Bool) → e ≡ existential (φ .prefix) (getD x i 0 / 2) → e ≡ true → ascends x ≡ true
+    → Strong φ x i
 unfolding var
 strong-is φ x i e is y up = record { exists = sym is ∙ y; rises = up }
 
@@ -121,7 +124,8 @@ marked φ x l k b m s =
     let y = clauseAt (φ .clauses) b in
     or-elim (eqb k (opposite l)) (not (eqb l k) && has k x) m
     (λ e. let o : has (opposite l) y ≡ true = search (and-l, and-r) in rw (eqb-true k (opposite l) e) o)
-    (λ e. all-has (λ j. has j y) (keepIf (λ j. not (eqb l j)) x) k (search (and-l, and-r)) (has-keep (λ j. not (eqb l j)) x k (search and-r) (search and-l)))
+    (λ e. all-has (λ j. has j y) (keepIf (λ j. not (eqb l j)) x) k (search (and-l, and-r))
+    (has-keep (λ j. not (eqb l j)) x k (search and-r) (search and-l)))
 
 pub strong-among : (φ : Formula) (a k : ℕ) (s : List ℕ) → s ≡ clausesWith (φ .clauses) k → (x : List ℕ) (l : ℕ) → marks x l k ≡ true
     → (r : Found) → r ≡ foundAs (firstB (strengthensBy φ x l) a s) → r ≡ foundAs (firstB (strengthensBy φ x l) a (upFrom 0 (length (φ .clauses))))

@@ -2,15 +2,15 @@
 -- Assumes nothing.
 use mathlib.Core.Path.{_≡_, refl, sym, _∙_, ap}
 use Prim.Native.Nat.{ℕ}
-use mathlib.Core.Bool.{Bool, true, false, _&&_, _||_, not, cond}
+use mathlib.Core.Bool.{Bool, true, _&&_}
 use mathlib.Core.List.{List, [], _∷_, map}
 use lib.ListN.{length, length-map}
-use Rattle.meaning.specs.Lists.{allOf, anyOf, has, keepIf}
-use Rattle.meaning.specs.Formula.{Formula, var, mentions, isVar, odd, anyExist, rightOf, universal}
+use Rattle.meaning.specs.Lists.{allOf}
+use Rattle.meaning.specs.Formula.{mentions, anyExist}
 use Rattle.meaning.specs.WellFormed.{goodPrefix, bound, reduced, tidyClause, wellFormed, literals}
-use Rattle.meaning.specs.Tidy.{ascending, bothPhases, stays, reduce, dropped, kept, tidySorted, tidy, addTidied, buildOn, build}
+use Rattle.meaning.specs.Tidy.{ascending, stays, tidySorted, tidy, addTidied, buildOn, build}
 use Rattle.meaning.proofs.Basics.{and-l, and-r, and-i}
-use Rattle.meaning.proofs.Lists.{all-le, all-map, all-all, any-ascending, all-of-has, all-has}
+use Rattle.meaning.proofs.Lists.{all-le, all-map, any-ascending, all-of-has, all-has}
 use Rattle.meaning.proofs.Again.{ascending-same, reduce-same, build-same}
 use Rattle.meaning.proofs.Parts.{ascends-of}
 use Rattle.meaning.proofs.WellFormed.{reduce-tidy}
@@ -42,7 +42,8 @@ module _ (p : List ℕ) (good : goodPrefix p ≡ true) where
   build-sorted cs [] h = refl
   build-sorted cs (c ∷ raws) h =
       build-sorted (addTidied cs (tidy p c)) raws (search and-r)
-      ∙ ap (λ (d : List ℕ). buildOn p (addTidied cs (tidySorted p d)) (map ascending raws)) (sym (ascending-same (ascending c) (ascends-of p (ascending c) (whole-tidy c (search and-l)))))
+      ∙ ap (λ (d : List ℕ). buildOn p (addTidied cs (tidySorted p d)) (map ascending raws))
+      (sym (ascending-same (ascending c) (ascends-of p (ascending c) (whole-tidy c (search and-l)))))
 
   -- what is built is the raw clauses, sorted
   pub build-whole : (raws : List (List ℕ)) → allOf (whole p) raws ≡ true → noTwo alike raws ≡ true → build p raws ≡ map ascending raws
@@ -58,4 +59,6 @@ module _ (p : List ℕ) (good : goodPrefix p ≡ true) where
 
     pub whole-literals : literals (build p raws) ≡ literals raws
     unfolding whole
-    whole-literals = ap literals (build-whole raws h n) ∙ once-literals raws (all-le (whole p) eachOnce raws (λ c k. unfold whole in search (and-l, and-r)) h)
+    whole-literals =
+        ap literals (build-whole raws h n)
+        ∙ once-literals raws (all-le (whole p) eachOnce raws (λ c k. unfold whole in search (and-l, and-r)) h)

@@ -1,24 +1,22 @@
 -- The raw clauses of step 7, one by one: each keeps all its literals.
 -- Assumes nothing.
-use mathlib.Core.Path.{_≡_, refl, sym, _∙_, ap, ap₂, subst}
+use mathlib.Core.Path.{_≡_, refl, sym, _∙_, ap, subst}
 use Prim.Native.Nat.{ℕ, _+_, _*_}
 use mathlib.Core.Bool.{Bool, true, false, _&&_, _||_, not, cond}
 use mathlib.Core.List.{List, [], _∷_, _++_, map}
 use lib.Dec.{eqb}
-use Rattle.meaning.specs.Lists.{allOf, anyOf, keepIf, has, without, partOf}
-use Rattle.meaning.specs.Formula.{var, odd, plain, opposite, isVar, mentions, dropVar, existential, universal, rightOf, anyExist}
-use Rattle.meaning.specs.WellFormed.{goodPrefix, bound, reduced, tidyClause}
+use Rattle.meaning.specs.Lists.{anyOf, keepIf, has, without, partOf}
+use Rattle.meaning.specs.Formula.{var, odd, plain, isVar, mentions, dropVar, existential, universal, rightOf, anyExist}
+use Rattle.meaning.specs.WellFormed.{goodPrefix, reduced, tidyClause}
 use Rattle.meaning.specs.Tidy.{stays}
-use Rattle.rules.specs.Eliminate.{renameVar, renameLit}
-use Rattle.meaning.proofs.Basics.{by-cases, clash, false-of, and-l, and-r, and-i, or-il, or-ir, or-elim, not-true, eqb-true, eqb-eq, eqb-ne, eqb-self, eqb-sym}
-use Rattle.meaning.proofs.Lists.{any-append, any-has, any-witness, any-keep-le, any-le, all-has, all-of-has, has-keep, keep-all, all-kept}
-use Rattle.meaning.proofs.Literals.{plain-is, odd-of-plain, odd-negated, var-negated}
-use Rattle.meaning.proofs.Prefix.{one-kind, drop-other, drop-none, right-any, forall-mentioned}
+use Rattle.meaning.proofs.Basics.{by-cases, clash, false-of, and-l, and-r, and-i, or-il, or-ir, or-elim, not-true, eqb-true, eqb-eq, eqb-ne, eqb-sym}
+use Rattle.meaning.proofs.Lists.{any-append, any-has, any-witness, any-keep-le, all-has, all-of-has, has-keep}
+use Rattle.meaning.proofs.Literals.{plain-is, odd-of-plain, odd-negated}
+use Rattle.meaning.proofs.Prefix.{one-kind, drop-other, right-any, forall-mentioned}
 use Rattle.meaning.proofs.Clauses.{drop-not}
-use Rattle.meaning.proofs.Parts.{ascends-of, bound-of, reduced-of}
+use Rattle.meaning.proofs.Parts.{reduced-of}
 use Rattle.rules.proofs.Rename.{Copies, copies-mention}
-use Rattle.weigh.proofs.ExpandLists.{eachOnce, ascends-once, once-keep, part-has, mentions-has, mentions-from, map-from}
-use Rattle.weigh.proofs.ExpandCopies.{copy-seen, rename-once}
+use Rattle.weigh.proofs.ExpandLists.{part-has, mentions-has, mentions-from, map-from}
 
 -- the universal a of the prefix p, its existentials es, and the numbers fs of their copies
 pub record Expands (p : List ℕ) (a : ℕ) (es fs : List ℕ) : Type 0 where
@@ -35,7 +33,8 @@ unfolding rightOf dropVar keepIf mentions anyOf isVar
 right-drop a v [] s d m = clash m refl
 right-drop a v (q ∷ p) s d m = go (eqb (var q) a) (eqb (var q) v) refl refl m (right-drop a v p s d)
   where
-    go : (x y : Bool) → eqb (var q) a ≡ x → eqb (var q) v ≡ y → (y || mentions p v) ≡ true → (mentions p v ≡ true → rightOf v (dropVar a p ++ s) ≡ dropVar a (rightOf v p) ++ s)
+    go : (x y : Bool) → eqb (var q) a ≡ x → eqb (var q) v ≡ y → (y || mentions p v) ≡ true
+        → (mentions p v ≡ true → rightOf v (dropVar a p ++ s) ≡ dropVar a (rightOf v p) ++ s)
         → rightOf v (cond (not x) (q ∷ dropVar a p) (dropVar a p) ++ s) ≡ dropVar a (cond y p (rightOf v p)) ++ s
     go true true e f n ih = clash (eqb-eq (sym (eqb-true (var q) a e) ∙ eqb-true (var q) v f)) d
     go true false e f n ih = ih n
@@ -53,6 +52,15 @@ right-exists q v a p h e i = subst (λ (k : ℕ). has k p ≡ true) (plain-is q 
 pub drop-has : (q a : ℕ) (s : List ℕ) → has q s ≡ true → eqb a (var q) ≡ false → has q (dropVar a s) ≡ true
 unfolding dropVar isVar
 drop-has q a s h d = has-keep (λ k. not (eqb (var k) a)) s q h (ap not (eqb-sym (var q) a ∙ d))
+
+has-drop : (q a : ℕ) (s : List ℕ) → has q (dropVar a s) ≡ true → has q s ≡ true
+unfolding has dropVar
+has-drop q a s h = any-keep-le _ _ s h
+
+-- in a reduced clause a universal has an existential to its right
+old-right : (p c : List ℕ) (l : ℕ) → reduced p c ≡ true → has l c ≡ true → universal p (var l) ≡ true → anyExist (rightOf (var l) p) c ≡ true
+unfolding reduced stays
+old-right p c l r h u = or-elim _ _ (all-has _ c l r h) (λ n. clash u (not-true _ n)) (λ e. e)
 
 copies-exist : (fs : List ℕ) (v : ℕ) → universal (map plain fs) v ≡ false
 unfolding universal
@@ -114,7 +122,8 @@ module _ (p : List ℕ) (a : ℕ) (es fs : List ℕ) (x : Expands p a es fs) whe
   -- a universal of the new prefix is another universal of the old
   new-forall : (v : ℕ) → universal newPrefix v ≡ true → (universal p v ≡ true) × (eqb a v ≡ false)
   new-forall v h =
-      or-elim (universal (dropVar a p) v) (universal (map plain fs) v) (unfold universal has in (sym (any-append (λ k. eqb (2 * v + 1) k) (dropVar a p) (map plain fs)) ∙ h))
+      or-elim (universal (dropVar a p) v) (universal (map plain fs) v)
+      (unfold universal has in (sym (any-append (λ k. eqb (2 * v + 1) k) (dropVar a p) (map plain fs)) ∙ h))
       (λ i. (drop-forall a p v i, eqb-ne a v (λ e. clash (rw (← e) at (forall-mentioned (dropVar a p) v i)) (drop-not a p))))
       (λ i. clash i (copies-exist fs v))
 
@@ -122,23 +131,25 @@ module _ (p : List ℕ) (a : ℕ) (es fs : List ℕ) (x : Expands p a es fs) whe
   still-right : (v : ℕ) (c : List ℕ) → anyExist (rightOf v p) c ≡ true → anyExist (dropVar a (rightOf v p)) (dropVar a c) ≡ true
   still-right v c h =
       let w : (q : ℕ) × (has q (rightOf v p) ≡ true) × (odd q ≡ false) × (mentions c (var q) ≡ true) = right-witness _ c h in
-      let other : eqb a (var (w .0)) ≡ false = eqb-ne _ _ (λ e. clash (x .forall) (one-kind p (x .good) a (right-exists (w .0) v a p (w .1) (w .2) e))) in
+      let other : eqb a (var (w .0)) ≡ false = eqb-ne _ _ (λ e.
+      clash (x .forall) (one-kind p (x .good) a (right-exists (w .0) v a p (w .1) (w .2) e))) in
       exist-of _ _ (w .0) (drop-has (w .0) a _ (w .1) other) (w .2) (drop-other a _ c other ∙ w .3)
 
-  -- Reduced --------------------------------------------------------------------------------------------------------
-  pub drop-reduced : (c : List ℕ) → tidyClause p c ≡ true → reduced newPrefix (dropVar a c) ≡ true
+  -- reduced over the new prefix: each universal has an existential of the clause in what stands right of it there
+  reduced-by : (c : List ℕ) → ((l : ℕ) → has l c ≡ true → universal p (var l) ≡ true → anyExist (dropVar a (rightOf (var l) p) ++ map plain fs) c ≡ true)
+      → reduced newPrefix c ≡ true
   unfolding reduced stays
-  drop-reduced c t = all-of-has _ (dropVar a c) (λ l h. by-cases (universal newPrefix (var l)) (λ u. or-ir (not (universal newPrefix (var l))) _ (right l h (new-forall (var l) u))) (λ u. or-il _ _ (ap not u)))
+  reduced-by c h =
+      all-of-has _ c (λ l i. by-cases (universal newPrefix (var l))
+      (λ u. or-ir (not (universal newPrefix (var l))) _ (right l i (new-forall (var l) u)))
+      (λ u. or-il _ _ (ap not u)))
     where
-      right : (l : ℕ) → has l (dropVar a c) ≡ true → (universal p (var l) ≡ true) × (eqb a (var l) ≡ false) → anyExist (rightOf (var l) newPrefix) (dropVar a c) ≡ true
-      right l h u =
-          rw (right-drop a (var l) p (map plain fs) (u .1) (forall-mentioned p (var l) (u .0)))
-          (exist-left _ _ _ (still-right (var l) c
-          (or-elim _ _ (all-has _ c l (unfold reduced stays in reduced-of p c t) (unfold has dropVar in any-keep-le _ _ c h)) (λ n. clash (u .0) (not-true _ n)) (λ e. e))))
+      right : (l : ℕ) → has l c ≡ true → (universal p (var l) ≡ true) × (eqb a (var l) ≡ false) → anyExist (rightOf (var l) newPrefix) c ≡ true
+      right l i u = rw (right-drop a (var l) p (map plain fs) (u .1) (forall-mentioned p (var l) (u .0))) (h l i (u .0))
+
+  -- so is a tidy clause without a, and one with a copy
+  pub drop-reduced : (c : List ℕ) → tidyClause p c ≡ true → reduced newPrefix (dropVar a c) ≡ true
+  drop-reduced c t = reduced-by (dropVar a c) (λ l i u. exist-left _ _ _ (still-right (var l) c (old-right p c l (reduced-of p c t) (has-drop l a c i) u)))
 
   pub copy-reduced : (c : List ℕ) → anyExist (map plain fs) c ≡ true → reduced newPrefix c ≡ true
-  unfolding reduced stays
-  copy-reduced c h = all-of-has _ c (λ l i. by-cases (universal newPrefix (var l)) (λ u. or-ir (not (universal newPrefix (var l))) _ (right (var l) (new-forall (var l) u))) (λ u. or-il _ _ (ap not u)))
-    where
-      right : (v : ℕ) → (universal p v ≡ true) × (eqb a v ≡ false) → anyExist (rightOf v newPrefix) c ≡ true
-      right v u = rw (right-drop a v p (map plain fs) (u .1) (forall-mentioned p v (u .0))) (exist-right (dropVar a (rightOf v p)) _ c h)
+  copy-reduced c h = reduced-by c (λ l i u. exist-right (dropVar a (rightOf (var l) p)) _ c h)

@@ -9,10 +9,10 @@ use Rattle.meaning.specs.Lists.{allOf, anyOf, has, partOf}
 use Rattle.meaning.specs.Formula.{var, odd, plain, negated, isVar, mentions, anyExist}
 use Rattle.meaning.specs.WellFormed.{bound}
 use Rattle.rules.specs.Eliminate.{renameVar, renameLit}
-use Rattle.meaning.proofs.Basics.{by-cases, clash, false-of, and-l, and-r, and-i, not-true, eqb-true, eqb-eq, eqb-self}
-use Rattle.meaning.proofs.Lists.{any-map, any-has, all-has, any-witness, any-le}
+use Rattle.meaning.proofs.Basics.{by-cases, clash, false-of, and-l, and-r, and-i, not-true, eqb-true}
+use Rattle.meaning.proofs.Lists.{any-has, all-has, any-witness}
 use Rattle.meaning.proofs.Literals.{lit-path, var-of-plain, odd-of-plain, var-of-negated, odd-of-negated}
-use Rattle.rules.proofs.Rename.{Copies, copies-mention, rename-in, rename-out}
+use Rattle.rules.proofs.Rename.{Copies, rename-in, rename-out}
 use Rattle.weigh.proofs.ExpandLists.{eachOnce, alike, part-of, part-has, mentions-has, mentions-from, map-has, map-from}
 
 -- The variable and the phase of a renamed literal ----------------------------------------------------------------------
@@ -34,7 +34,8 @@ module _ (es fs : List ℕ) (l : ℕ) where
       go false = odd-of-plain (renameVar es fs (var l))
 
 -- two existentials have two copies
-inner-apart : (es fs : List ℕ) → Copies es fs → (v w : ℕ) → mentions es v ≡ true → mentions es w ≡ true → renameVar es fs v ≡ renameVar es fs w → v ≡ w
+inner-apart : (es fs : List ℕ) → Copies es fs → (v w : ℕ) → mentions es v ≡ true → mentions es w ≡ true
+    → renameVar es fs v ≡ renameVar es fs w → v ≡ w
 unfolding renameVar mentions anyOf isVar
 inner-apart [] [] k v w m n e = absurd (false≢true m)
 inner-apart [] (f ∷ fs) k v w m n e = absurd k
@@ -67,13 +68,16 @@ module _ (p es fs : List ℕ) (k : Copies es fs) (new : (v : ℕ) → has v fs �
       (sym (odd-rename es fs l) ∙ ap odd e ∙ odd-rename es fs m)
 
   -- renamed clauses are parts of each other only if the clauses are
-  rename-part : (c d : List ℕ) → bound p c ≡ true → bound p d ≡ true → partOf (map (renameLit es fs) c) (map (renameLit es fs) d) ≡ true → partOf c d ≡ true
+  rename-part : (c d : List ℕ) → bound p c ≡ true → bound p d ≡ true
+      → partOf (map (renameLit es fs) c) (map (renameLit es fs) d) ≡ true → partOf c d ≡ true
   unfolding bound
   rename-part c d b e h =
-      part-of c d (λ l i. let w : (m : ℕ) × (has m d ≡ true) × (renameLit es fs l ≡ renameLit es fs m) = map-from _ d _ (part-has _ _ h _ (map-has _ c l i)) in
+      part-of c d (λ l i.
+      let w : (m : ℕ) × (has m d ≡ true) × (renameLit es fs l ≡ renameLit es fs m) = map-from _ d _ (part-has _ _ h _ (map-has _ c l i)) in
       rw (lit-apart l (w .0) (all-has _ c l b i) (all-has _ d (w .0) e (w .1)) (w .2)) (w .1))
 
-  pub rename-alike : (c d : List ℕ) → bound p c ≡ true → bound p d ≡ true → alike (map (renameLit es fs) c) (map (renameLit es fs) d) ≡ true → alike c d ≡ true
+  pub rename-alike : (c d : List ℕ) → bound p c ≡ true → bound p d ≡ true
+      → alike (map (renameLit es fs) c) (map (renameLit es fs) d) ≡ true → alike c d ≡ true
   unfolding alike
   rename-alike c d b e h = and-i _ _ (rename-part c d b e (search and-l)) (rename-part d c e b (search and-r))
 

@@ -12,7 +12,7 @@ use Rattle.meaning.specs.Lists.{allOf, anyOf, keepIf, has, partOf, same}
 use Rattle.meaning.specs.Formula.{var, opposite, isVar, mentions}
 use Rattle.meaning.specs.WellFormed.{ascends, literals, distinct}
 use Rattle.meaning.specs.Tidy.{insertNew, ascending, bothPhases}
-use Rattle.meaning.proofs.Basics.{by-cases, clash, false-of, and-l, and-r, and-i, or-l, or-r, or-elim, not-true, eqb-true, eqb-eq, eqb-ne, eqb-self}
+use Rattle.meaning.proofs.Basics.{by-cases, clash, false-of, and-l, and-r, and-i, or-l, or-r, or-elim, not-true, eqb-true, eqb-ne, eqb-self}
 use Rattle.meaning.proofs.Lists.{any-le, all-le, any-keep-le, any-map, any-append, all-has, all-of-has, any-has, any-witness, any-ascending, any-none, none-any, all-all, same-path}
 use Rattle.meaning.proofs.Literals.{var-opp}
 use Rattle.meaning.proofs.Ascends.{opp-differs}
@@ -29,10 +29,13 @@ module _ {A : Type 0} where
   no-two-keep r t [] h = refl
   no-two-keep r t (x ∷ xs) h =
       by-cases (t x)
-      (λ e. rw e (and-i _ _ (ap not (false-of _ (λ k. clash (any-keep-le (r x) t xs k) (search (and-l, not-true))))) (no-two-keep r t xs (search and-r))))
+      (λ e. rw e (and-i _ _
+      (ap not (false-of _ (λ k. clash (any-keep-le (r x) t xs k) (search (and-l, not-true)))))
+      (no-two-keep r t xs (search and-r))))
       (λ e. rw e (no-two-keep r t xs (search and-r)))
 
-  pub no-two-append : (r : A → A → Bool) (xs ys : List A) → noTwo r xs ≡ true → noTwo r ys ≡ true → allOf (λ x. not (anyOf (r x) ys)) xs ≡ true → noTwo r (xs ++ ys) ≡ true
+  pub no-two-append : (r : A → A → Bool) (xs ys : List A) → noTwo r xs ≡ true → noTwo r ys ≡ true
+      → allOf (λ x. not (anyOf (r x) ys)) xs ≡ true → noTwo r (xs ++ ys) ≡ true
   unfolding noTwo allOf
   no-two-append r [] ys h k d = k
   no-two-append r (x ∷ xs) ys h k d =
@@ -55,11 +58,13 @@ module _ {A : Type 0} where
       → (xs ys : List A) → allOf (λ x. not (t x)) xs ≡ true → allOf t ys ≡ true → noTwo r xs ≡ true → noTwo r ys ≡ true → noTwo r (xs ++ ys) ≡ true
   no-two-apart r t h xs ys a b m n =
       no-two-append r xs ys m n
-      (all-le (λ x. not (t x)) _ xs (λ x e. ap not (none-any (r x) ys (all-le t _ ys (λ y i. ap not (false-of _ (λ k. clash (h x y k i) (not-true _ e)))) b))) a)
+      (all-le (λ x. not (t x)) _ xs
+      (λ x e. ap not (none-any (r x) ys (all-le t _ ys (λ y i. ap not (false-of _ (λ k. clash (h x y k i) (not-true _ e)))) b))) a)
 
 module _ {A B : Type 0} where
   -- a map that relates no more keeps that, on elements of which f holds
-  module _ (r : A → A → Bool) (s : B → B → Bool) (g : A → B) (f : A → Bool) (h : (x y : A) → f x ≡ true → f y ≡ true → s (g x) (g y) ≡ true → r x y ≡ true) where
+  module _ (r : A → A → Bool) (s : B → B → Bool) (g : A → B) (f : A → Bool)
+      (h : (x y : A) → f x ≡ true → f y ≡ true → s (g x) (g y) ≡ true → r x y ≡ true) where
     no-later : (x : A) (xs : List A) → f x ≡ true → allOf f xs ≡ true → anyOf (r x) xs ≡ false → anyOf (s (g x)) (map g xs) ≡ false
     no-later x xs e a n =
         any-map (s (g x)) g xs ∙ none-any (λ y. s (g x) (g y)) xs
@@ -78,7 +83,8 @@ map-has g c l h = unfold has in any-map (λ k. eqb (g l) k) g c ∙ any-has (λ 
 
 pub map-from : (g : ℕ → ℕ) (c : List ℕ) (y : ℕ) → has y (map g c) ≡ true → (l : ℕ) × (has l c ≡ true) × (y ≡ g l)
 map-from g c y h =
-    let w : (l : ℕ) × (has l c ≡ true) × (eqb y (g l) ≡ true) = any-witness (λ l. eqb y (g l)) c (sym (any-map (λ k. eqb y k) g c) ∙ unfold has in h) in
+    let w : (l : ℕ) × (has l c ≡ true) × (eqb y (g l) ≡ true) = any-witness (λ l. eqb y (g l)) c
+    (sym (any-map (λ k. eqb y k) g c) ∙ unfold has in h) in
     (w .0, w .1, eqb-true y (g (w .0)) (w .2))
 
 pub mentions-has : (c : List ℕ) (l : ℕ) → has l c ≡ true → mentions c (var l) ≡ true
@@ -133,15 +139,20 @@ unfolding ascends eachOnce mentions isVar
 ascends-once [] h = refl
 ascends-once (l ∷ c) h =
     and-i _ _
-    (ap not (none-any (λ k. eqb (var k) (var l)) c (all-le (λ k. ltb (var l) (var k)) _ c (λ k e. ap not (eqb-ne _ _ (λ (i : var k ≡ var l). let m = ltb-true (var l) (var k) e in omega arith))) (search and-l))))
+    (ap not (none-any (λ k. eqb (var k) (var l)) c (all-le (λ k. ltb (var l) (var k)) _ c above (search and-l))))
     (ascends-once c (search and-r))
+  where
+    above : (k : ℕ) → ltb (var l) (var k) ≡ true → not (eqb (var k) (var l)) ≡ true
+    above k e = ap not (eqb-ne _ _ (λ (i : var k ≡ var l). let m = ltb-true (var l) (var k) e in omega arith))
 
 pub once-keep : (t : ℕ → Bool) (c : List ℕ) → eachOnce c ≡ true → eachOnce (keepIf t c) ≡ true
 unfolding eachOnce keepIf mentions
 once-keep t [] h = refl
 once-keep t (l ∷ c) h =
     by-cases (t l)
-    (λ e. rw e (and-i _ _ (ap not (false-of _ (λ k. clash (any-keep-le (isVar (var l)) t c k) (search (and-l, not-true))))) (once-keep t c (search and-r))))
+    (λ e. rw e (and-i _ _
+    (ap not (false-of _ (λ k. clash (any-keep-le (isVar (var l)) t c k) (search (and-l, not-true)))))
+    (once-keep t c (search and-r))))
     (λ e. rw e (once-keep t c (search and-r)))
 
 -- two literals of one variable are one
@@ -164,7 +175,8 @@ pub once-single : (c : List ℕ) → eachOnce c ≡ true → bothPhases (ascendi
 unfolding bothPhases
 once-single c h =
     false-of _ (λ b. let w : (k : ℕ) × (has k (ascending c) ≡ true) × (has (opposite k) (ascending c) ≡ true) = any-witness _ (ascending c) b in
-    opp-differs (w .0) (once-path c h (opposite (w .0)) (w .0) (sym (has-ascending (opposite (w .0)) c) ∙ w .2) (sym (has-ascending (w .0) c) ∙ w .1) (var-opp (w .0))))
+    opp-differs (w .0) (once-path c h (opposite (w .0)) (w .0)
+    (sym (has-ascending (opposite (w .0)) c) ∙ w .2) (sym (has-ascending (w .0) c) ∙ w .1) (var-opp (w .0))))
 
 -- sorted, it is as long
 insert-longer : (l : ℕ) (c : List ℕ) → has l c ≡ false → length (insertNew l c) ≡ suc (length c)
@@ -172,7 +184,8 @@ unfolding insertNew has anyOf
 insert-longer l [] h = refl
 insert-longer l (k ∷ c) h = go (ltb l k) (insert-longer l c (or-r (eqb l k) _ h))
   where
-    go : (s : Bool) → length (insertNew l c) ≡ suc (length c) → length (cond s (l ∷ k ∷ c) (cond (eqb l k) (k ∷ c) (k ∷ insertNew l c))) ≡ suc (suc (length c))
+    go : (s : Bool) → length (insertNew l c) ≡ suc (length c)
+        → length (cond s (l ∷ k ∷ c) (cond (eqb l k) (k ∷ c) (k ∷ insertNew l c))) ≡ suc (suc (length c))
     go true ih = refl
     go false ih = rw (or-l (eqb l k) (has l c) h) (ap suc ih)
 

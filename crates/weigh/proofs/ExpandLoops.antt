@@ -1,8 +1,8 @@
 -- The loops and branches of src/expanding.rt: for each loop the turn and the ends.
 -- Assumes nothing.
-use mathlib.Core.Path.{_≡_, refl, sym, _∙_, ap}
+use mathlib.Core.Path.{_≡_, sym, _∙_, ap}
 use Prim.Native.Nat.{ℕ, zero, suc, _+_, _*_, _/_, _%_, _≤_, _<_}
-use mathlib.Core.Bool.{Bool, true, false, not, cond}
+use mathlib.Core.Bool.{Bool, true, false, not}
 use mathlib.Core.List.{List, [], _∷_}
 use native.Mathlib.Omega.{arith}
 use native.Mathlib.Numerals.{add-one}
@@ -104,7 +104,8 @@ pub sum-start : (p : List ℕ) (n a : ℕ) (cs : List (List ℕ)) → Summing p 
 sum-start p n a cs = record { clauses = omega arith; literals = omega arith }
 
 module _ (p : List ℕ) (n a : ℕ) (cs : List (List ℕ)) (i x y : ℕ) (g : Summing p n a cs i x y) where
-  pub sum-turn : i < length cs → (c : List ℕ) → c ≡ getD cs i [] → (s : Share) → s ≡ shareOf p n a c → (k m : ℕ) → k ≡ clausesOf s → m ≡ literalsOf s (length c) → Summing p n a cs (i + 1) (x + k) (y + m)
+  pub sum-turn : i < length cs → (c : List ℕ) → c ≡ getD cs i [] → (s : Share) → s ≡ shareOf p n a c
+      → (k m : ℕ) → k ≡ clausesOf s → m ≡ literalsOf s (length c) → Summing p n a cs (i + 1) (x + k) (y + m)
   unfolding expandedClauses expandedLiterals
   sum-turn h c e s f k m u v =
       let d : drop i cs ≡ c ∷ drop (i + 1) cs = rw (add-one, e) (drop-cons cs i [] h) in

@@ -1,17 +1,17 @@
 -- The raw clauses of step 7 together: each keeps all its literals, and no two have the same.
 -- Assumes nothing.
-use mathlib.Core.Path.{_≡_, refl, sym, _∙_, ap, ap₂}
+use mathlib.Core.Path.{_≡_, refl, sym, _∙_, ap}
 use Prim.Native.Nat.{ℕ}
 use mathlib.Core.Bool.{Bool, true, false, _&&_, _||_, not, cond}
 use mathlib.Core.List.{List, [], _∷_, _++_, map}
 use lib.Dec.{eqb}
 use Rattle.meaning.specs.Lists.{allOf, anyOf, keepIf, has, without, partOf}
-use Rattle.meaning.specs.Formula.{var, odd, plain, negated, opposite, isVar, mentions, dropVar, anyExist}
+use Rattle.meaning.specs.Formula.{var, plain, negated, opposite, isVar, dropVar, anyExist}
 use Rattle.meaning.specs.WellFormed.{bound, reduced, tidyClause}
 use Rattle.rules.specs.Simplify.{withoutLit, assign}
 use Rattle.rules.specs.Eliminate.{renameLit, touching, others}
-use Rattle.meaning.proofs.Basics.{by-cases, clash, false-of, iff, and-l, and-r, and-i, or-l, or-r, or-il, or-ir, or-elim, not-true, eqb-true, eqb-eq, eqb-ne, eqb-false}
-use Rattle.meaning.proofs.Lists.{all-map, all-keep, all-keep-le, all-le, all-append, any-append, any-keep-le, has-keep, none-any}
+use Rattle.meaning.proofs.Basics.{by-cases, clash, false-of, iff, and-l, and-r, and-i, or-l, or-r, or-il, or-ir, eqb-true, eqb-eq}
+use Rattle.meaning.proofs.Lists.{all-map, all-keep, all-keep-le, all-le, all-append, any-keep-le, has-keep}
 use Rattle.meaning.proofs.Literals.{var-opp, var-of-plain, var-of-negated}
 use Rattle.meaning.proofs.Prefix.{drop-none}
 use Rattle.meaning.proofs.Parts.{ascends-of, bound-of}
@@ -43,7 +43,8 @@ without-drop l (k ∷ c) h =
         (λ e. eqb-eq (sym (ap var (eqb-true (opposite l) k e)) ∙ var-opp l))
         (λ e. eqb-eq (sym (other-lit l k (eqb-true (var k) (var l) e) (or-l (eqb l k) (has l c) h))))
 
-pub assign-all : (f g : List ℕ → Bool) (l : ℕ) → ((c : List ℕ) → g c ≡ true → f (dropVar (var l) c) ≡ true) → (cs : List (List ℕ)) → allOf g cs ≡ true → allOf f (assign l cs) ≡ true
+pub assign-all : (f g : List ℕ → Bool) (l : ℕ) → ((c : List ℕ) → g c ≡ true → f (dropVar (var l) c) ≡ true)
+    → (cs : List (List ℕ)) → allOf g cs ≡ true → allOf f (assign l cs) ≡ true
 unfolding assign withoutLit
 assign-all f g l h cs a =
     all-map f (without (opposite l)) _ ∙ (all-keep _ (λ c. not (has l c)) cs
@@ -97,7 +98,8 @@ module _ (p : List ℕ) (a : ℕ) (es fs : List ℕ) (x : Expands p a es fs) (cs
   all-others f h = all-keep f _ cs ∙ all-le (tidyClause p) _ cs (λ c t. by-cases (anyExist es c) (λ e. rw e) (λ e. rw e (h c t e))) tidy
 
   -- of a side: f without a
-  all-side : (f : List ℕ → Bool) → ((c : List ℕ) → tidyClause p c ≡ true → anyExist es c ≡ true → f (dropVar a c) ≡ true) → (l : ℕ) → var l ≡ a → allOf f (assign l (touching es cs)) ≡ true
+  all-side : (f : List ℕ → Bool) → ((c : List ℕ) → tidyClause p c ≡ true → anyExist es c ≡ true → f (dropVar a c) ≡ true)
+      → (l : ℕ) → var l ≡ a → allOf f (assign l (touching es cs)) ≡ true
   all-side f h l e = assign-all f inF l (λ c i. rw e (h c (search and-l) (search and-r))) (touching es cs) all-touching
 
   -- Each keeps all its literals
@@ -113,7 +115,9 @@ module _ (p : List ℕ) (a : ℕ) (es fs : List ℕ) (x : Expands p a es fs) (cs
   drop-copy c e = copy-seen es fs (x .copies) _ (exist-drop a es c (x .apart) e)
 
   sound-others : allOf sound (others es cs) ≡ true
-  sound-others = all-others sound (λ c t e. and-i _ _ (ascends-once c (ascends-of p c t)) (rw (drop-none a c (false-of _ (λ m. clash (x .touched c t m) e))) at (drop-reduced p a es fs x c t)))
+  sound-others =
+      all-others sound (λ c t e. and-i _ _ (ascends-once c (ascends-of p c t))
+      (rw (drop-none a c (false-of _ (λ m. clash (x .touched c t m) e))) at (drop-reduced p a es fs x c t)))
 
   sound-false : allOf sound sideFalse ≡ true
   sound-false = all-side sound (λ c t e. and-i _ _ (drop-once c t) (drop-reduced p a es fs x c t)) (negated a) (var-of-negated a)
@@ -121,7 +125,9 @@ module _ (p : List ℕ) (a : ℕ) (es fs : List ℕ) (x : Expands p a es fs) (cs
   sound-true : allOf sound (map renamed sideTrue) ≡ true
   sound-true =
       all-map sound renamed sideTrue
-      ∙ all-side (λ c. sound (renamed c)) (λ c t e. and-i _ _ (rename-once p es fs (x .copies) (x .new) _ (drop-bound c t) (drop-once c t)) (copy-reduced p a es fs x _ (drop-copy c e))) (plain a) (var-of-plain a)
+      ∙ all-side (λ c. sound (renamed c)) (λ c t e. and-i _ _
+      (rename-once p es fs (x .copies) (x .new) _ (drop-bound c t) (drop-once c t))
+      (copy-reduced p a es fs x _ (drop-copy c e))) (plain a) (var-of-plain a)
 
   pub sound-all : allOf sound (others es cs ++ (sideFalse ++ map renamed sideTrue)) ≡ true
   sound-all = all-append sound (others es cs) _ ∙ and-i _ _ sound-others (all-append sound sideFalse _ ∙ and-i _ _ sound-false sound-true)
@@ -162,7 +168,8 @@ module _ (p : List ℕ) (a : ℕ) (es fs : List ℕ) (x : Expands p a es fs) (cs
         (all-others (λ c. not (anyExist seen c)) (λ c t e. ap not (exist-neither es (map plain fs) c e (no-copy c (bound-of p c t)))))
         (all-append (anyExist seen) sideFalse _
         ∙ and-i _ _ (all-side (anyExist seen) (λ c t e. exist-left es _ _ (exist-drop a es c (x .apart) e)) (negated a) (var-of-negated a))
-        (all-map (anyExist seen) renamed sideTrue ∙ all-side (λ c. anyExist seen (renamed c)) (λ c t e. exist-right es _ _ (drop-copy c e)) (plain a) (var-of-plain a)))
+        (all-map (anyExist seen) renamed sideTrue
+        ∙ all-side (λ c. anyExist seen (renamed c)) (λ c t e. exist-right es _ _ (drop-copy c e)) (plain a) (var-of-plain a)))
         apart-others apart-sides
       where
         seen : List ℕ

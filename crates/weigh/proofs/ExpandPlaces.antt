@@ -1,12 +1,12 @@
 -- The clauses of f and the existentials right of the universal, by places.
 -- Assumes nothing.
 use mathlib.Core.Path.{_≡_, refl, sym, _∙_, ap, ap₂}
-use Prim.Native.Nat.{ℕ, _+_, _*_}
-use mathlib.Core.Bool.{Bool, true, false, _&&_, not, cond}
+use Prim.Native.Nat.{ℕ, _+_}
+use mathlib.Core.Bool.{true, false, _&&_, not}
 use mathlib.Core.List.{List, [], _∷_}
-use lib.Dec.{eqb, ltb}
+use lib.Dec.{ltb}
 use lib.ListN.{length, drop}
-use Rattle.meaning.specs.Lists.{anyOf, keepIf, has}
+use Rattle.meaning.specs.Lists.{has}
 use Rattle.meaning.specs.Formula.{var, odd, mentions, existential, universal, rightOf, anyExist}
 use Rattle.meaning.specs.WellFormed.{goodPrefix}
 use Rattle.rules.specs.Eliminate.{inner}
@@ -14,7 +14,7 @@ use Rattle.permits.specs.Places.{placeOf}
 use Rattle.meaning.proofs.Basics.{clash, false-of, iff, and-l, and-r, and-i}
 use Rattle.meaning.proofs.Lists.{any-has, any-witness, any-keep-le, has-keep}
 use Rattle.meaning.proofs.Literals.{negated-is}
-use Rattle.meaning.proofs.Prefix.{one-kind, exists-mentioned, right-any}
+use Rattle.meaning.proofs.Prefix.{one-kind, exists-mentioned}
 use Rattle.permits.proofs.PlaceLaws.{place-right, right-by-place}
 use Rattle.weigh.specs.Expanding.{existentials, innerLit, reaches, shareOf, clausesOf, literalsOf, expandedClauses, expandedLiterals}
 use Rattle.weigh.proofs.ExpandLists.{mentions-has, mentions-from}
@@ -47,7 +47,8 @@ module _ (p : List ℕ) (a : ℕ) (g : goodPrefix p ≡ true) (m : mentions p a 
   reach-exist c h =
       let w : (l : ℕ) × (has l c ≡ true) × ((existential p (var l) && ltb (placeOf p a) (placeOf p (var l))) ≡ true) = any-witness _ c h in
       let e : existential p (var (w .0)) ≡ true = and-l _ _ (w .2) in
-      let q : (q : ℕ) × (has q (rightOf a p) ≡ true) × (var q ≡ var (w .0)) = mentions-from _ _ (right-lit _ e ∙ and-r (existential p (var (w .0))) _ (w .2)) in
+      let q : (q : ℕ) × (has q (rightOf a p) ≡ true) × (var q ≡ var (w .0)) =
+      mentions-from _ _ (right-lit _ e ∙ and-r (existential p (var (w .0))) _ (w .2)) in
       let o : odd (q .0) ≡ false = entry-even p (q .0) g (right-has (q .0) a p (q .1)) (rw (q .2) e) in
       exist-of _ c (q .0) (has-inner (q .0) a p (q .1) o) o (rw (q .2) (mentions-has c (w .0) (w .1)))
 

@@ -2,14 +2,14 @@
 -- Assumes nothing.
 use mathlib.Core.Path.{_≡_, refl, sym, _∙_, ap}
 use Prim.Native.Nat.{ℕ, zero, suc, _+_, _-_, _≤_}
-use mathlib.Core.Bool.{Bool, true, false, _&&_, not}
+use mathlib.Core.Bool.{Bool, true, _&&_, not}
 use mathlib.Core.List.{List, [], _∷_, _++_, map}
 use native.Mathlib.Omega.{arith}
 use lib.Dec.{leb}
 use lib.ListN.{length, take, length-append, length-map}
 use borrow.Author.Tests.{leb-true, le-leb}
-use Rattle.meaning.specs.Lists.{allOf, keepIf, has, upFrom}
-use Rattle.meaning.specs.Formula.{var, plain, mentions, dropVar, universal}
+use Rattle.meaning.specs.Lists.{allOf, has, upFrom}
+use Rattle.meaning.specs.Formula.{var, plain, mentions, dropVar}
 use Rattle.meaning.specs.WellFormed.{goodPrefix}
 use Rattle.rules.specs.Eliminate.{fresh}
 use Rattle.meaning.proofs.Basics.{iff, clash, false-of, and-l, and-r, and-i}
@@ -43,7 +43,8 @@ fresh-below p n = all-take _ n _ (all-keep-le _ _ _ (up-below 1 (length p + n) (
 copies-below : (p : List ℕ) (n t : ℕ) → length p + n ≤ t → allOf (λ q. leb (var q) t) (map plain (fresh p n)) ≡ true
 copies-below p n t h =
     all-map (λ q. leb (var q) t) plain (fresh p n)
-    ∙ all-le (λ v. leb v (length p + n)) _ (fresh p n) (λ v k. rw (var-of-plain v) (le-leb v t (let m = leb-true v (length p + n) k in omega arith))) (fresh-below p n)
+    ∙ all-le (λ v. leb v (length p + n)) _ (fresh p n)
+    (λ v k. rw (var-of-plain v) (le-leb v t (let m = leb-true v (length p + n) k in omega arith))) (fresh-below p n)
 
 -- The new prefix -------------------------------------------------------------------------------------------------------
 drop-length : (p : List ℕ) (v : ℕ) → goodPrefix p ≡ true → mentions p v ≡ true → suc (length (dropVar v p)) ≡ length p
@@ -68,12 +69,14 @@ module _ (p : List ℕ) (a : ℕ) (es : List ℕ) (n : ℕ) (x : Expands p a es 
   copies-length = length-map (fresh p n) plain ∙ fresh-length p n
 
   pub new-length : length q ≡ length p - 1 + n
-  new-length = omega (arith, length-append (dropVar a p) (map plain (fresh p n)), copies-length, drop-length p a (x .good) (forall-mentioned p a (x .forall)))
+  new-length =
+      omega (arith, length-append (dropVar a p) (map plain (fresh p n)), copies-length, drop-length p a (x .good) (forall-mentioned p a (x .forall)))
 
   -- the old prefix with the copies is good: so it has no more entries than there are numbers
   few : goodPrefix q ≡ true → numbers p ≡ true → numbers (map plain (fresh p n)) ≡ true → length p + n ≤ 1023
   few good old new =
-      let h : length (p ++ map plain (fresh p n)) ≤ 1023 = prefix-few 1023 (p ++ map plain (fresh p n)) (good-append p _ (x .good) (good-right (dropVar a p) _ good) apart) (all-append _ p _ ∙ and-i _ _ old new) in
+      let g : goodPrefix (p ++ map plain (fresh p n)) ≡ true = good-append p _ (x .good) (good-right (dropVar a p) _ good) apart in
+      let h : length (p ++ map plain (fresh p n)) ≤ 1023 = prefix-few 1023 (p ++ map plain (fresh p n)) g (all-append _ p _ ∙ and-i _ _ old new) in
       omega (arith, length-append p (map plain (fresh p n)), copies-length)
     where
       apart : allOf (λ k. not (mentions (map plain (fresh p n)) (var k))) p ≡ true
@@ -82,7 +85,8 @@ module _ (p : List ℕ) (a : ℕ) (es : List ℕ) (n : ℕ) (x : Expands p a es 
   pub new-fits : goodPrefix q ≡ true → numbers p ≡ true → (leb (length q) 1023 && numbers q) ≡ leb (length p + n) 1023
   new-fits good old =
       iff _ _
-      (λ h. le-leb (length p + n) 1023 (few good old (and-r (numbers (dropVar a p)) _ (sym (all-append _ (dropVar a p) _) ∙ and-r (leb (length q) 1023) _ h))))
+      (λ h. le-leb (length p + n) 1023
+      (few good old (and-r (numbers (dropVar a p)) _ (sym (all-append _ (dropVar a p) _) ∙ and-r (leb (length q) 1023) _ h))))
       (λ h. let k = leb-true (length p + n) 1023 h in
       and-i _ _ (le-leb (length q) 1023 (omega (arith, new-length)))
       (all-append _ (dropVar a p) _ ∙ and-i _ _ (all-drop _ a p old) (copies-below p n 1023 k)))

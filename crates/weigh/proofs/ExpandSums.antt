@@ -1,18 +1,18 @@
 -- How many raw clauses step 7 makes, and of how many literals: clause by clause.
 -- Assumes nothing.
-use mathlib.Core.Path.{_≡_, refl, sym, _∙_, ap, ap₂}
-use Prim.Native.Nat.{ℕ, suc, _+_, _-_, _*_}
+use mathlib.Core.Path.{_≡_, refl, ap}
+use Prim.Native.Nat.{ℕ, suc, _+_, _-_}
 use mathlib.Core.Bool.{Bool, true, false, _&&_, _||_, not, cond}
 use mathlib.Core.List.{List, [], _∷_, _++_, map}
 use native.Mathlib.Omega.{arith}
 use lib.Dec.{eqb}
 use lib.ListN.{length, length-append, length-map}
 use Rattle.meaning.specs.Lists.{allOf, anyOf, keepIf, has, without}
-use Rattle.meaning.specs.Formula.{var, plain, negated, opposite, mentions, anyExist}
+use Rattle.meaning.specs.Formula.{plain, negated, opposite, mentions, anyExist}
 use Rattle.meaning.specs.WellFormed.{ascends, literals}
 use Rattle.rules.specs.Simplify.{withoutLit, assign}
 use Rattle.rules.specs.Eliminate.{touching, others}
-use Rattle.meaning.proofs.Basics.{by-cases, clash, false-of, and-l, and-r, or-elim, or-r, not-true, eqb-true}
+use Rattle.meaning.proofs.Basics.{by-cases, clash, false-of, and-l, and-r, not-true, eqb-true}
 use Rattle.meaning.proofs.Lists.{keep-all, any-none}
 use Rattle.meaning.proofs.Weight.{literals-append}
 use Rattle.meaning.proofs.Literals.{var-of-plain, opp-plain, opp-negated}
@@ -41,8 +41,11 @@ unfolding eachOnce has anyOf
 without-one k [] o h = clash h refl
 without-one k (l ∷ c) o h =
     by-cases (eqb k l)
-    (λ e. rw (without-hit k l c e, without-none k c (false-of _ (λ i. clash (rw (eqb-true k l e) at (mentions-has c k i)) (search (and-l, not-true))))))
+    (λ e. rw (without-hit k l c e, without-none k c (gone e)))
     (λ e. rw (without-miss k l c e) (ap suc (without-one k c (search and-r) (rw e at h))))
+  where
+    gone : eqb k l ≡ true → has k c ≡ false
+    gone e = false-of _ (λ i. clash (rw (eqb-true k l e) at (mentions-has c k i)) (search (and-l, not-true)))
 
 -- One clause of f ------------------------------------------------------------------------------------------------------
 -- when l becomes true the clause goes, or loses the opposite
@@ -50,15 +53,18 @@ assign-clauses : (l : ℕ) (c : List ℕ) (cs : List (List ℕ)) → length (ass
 unfolding assign withoutLit keepIf
 assign-clauses l c cs = go (has l c)
   where
-    go : (s : Bool) → length (map (without (opposite l)) (cond (not s) (c ∷ withoutLit l cs) (withoutLit l cs))) ≡ cond s 0 1 + length (map (without (opposite l)) (withoutLit l cs))
+    go : (s : Bool) → length (map (without (opposite l)) (cond (not s) (c ∷ withoutLit l cs) (withoutLit l cs)))
+        ≡ cond s 0 1 + length (map (without (opposite l)) (withoutLit l cs))
     go true = omega arith
     go false = omega arith
 
-assign-literals : (l : ℕ) (c : List ℕ) (cs : List (List ℕ)) → literals (assign l (c ∷ cs)) ≡ cond (has l c) 0 (length (without (opposite l) c)) + literals (assign l cs)
+assign-literals : (l : ℕ) (c : List ℕ) (cs : List (List ℕ)) → literals (assign l (c ∷ cs))
+    ≡ cond (has l c) 0 (length (without (opposite l) c)) + literals (assign l cs)
 unfolding assign withoutLit keepIf literals
 assign-literals l c cs = go (has l c)
   where
-    go : (s : Bool) → literals (map (without (opposite l)) (cond (not s) (c ∷ withoutLit l cs) (withoutLit l cs))) ≡ cond s 0 (length (without (opposite l) c)) + literals (map (without (opposite l)) (withoutLit l cs))
+    go : (s : Bool) → literals (map (without (opposite l)) (cond (not s) (c ∷ withoutLit l cs) (withoutLit l cs)))
+        ≡ cond s 0 (length (without (opposite l) c)) + literals (map (without (opposite l)) (withoutLit l cs))
     go true = omega arith
     go false = refl
 
@@ -85,7 +91,8 @@ module _ (a : ℕ) (c : List ℕ) (up : ascends c ≡ true) where
       go false true h = refl
       go false false h = refl
 
-  sides-literals : cond (has (negated a) c) 0 (length (without (opposite (negated a)) c)) + cond (has (plain a) c) 0 (length (without (opposite (plain a)) c)) ≡ literalsOf (cond (mentions c a) Loses Doubles) (length c)
+  sides-literals : cond (has (negated a) c) 0 (length (without (opposite (negated a)) c)) + cond (has (plain a) c) 0 (length (without (opposite (plain a)) c))
+      ≡ literalsOf (cond (mentions c a) Loses Doubles) (length c)
   unfolding literalsOf
   sides-literals =
       let x = phases a c up in
@@ -162,7 +169,14 @@ module _ (a : ℕ) (es : List ℕ) where
   sum-clauses (c ∷ cs) h =
       let s = sum-clauses cs (search and-r) in
       by-cases (anyExist es c)
-      (λ e. rw (others-in es c cs e, touching-in es c cs e, share-in c e, assign-clauses (negated a) c (touching es cs), assign-clauses (plain a) c (touching es cs)) (omega (arith, sides-clauses a c (search and-l))))
+      (λ e. rw (
+        others-in es c cs e,
+        touching-in es c cs e,
+        share-in c e,
+        assign-clauses (negated a) c (touching es cs),
+        assign-clauses (plain a) c (touching es cs),
+      )
+      (omega (arith, sides-clauses a c (search and-l))))
       (λ e. rw (others-out es c cs e, touching-out es c cs e, clauses-out c e) (omega arith))
 
   sum-literals : (cs : List (List ℕ)) → allOf ascends cs ≡ true → sizes literals cs ≡ literalsBy a es cs
@@ -171,7 +185,14 @@ module _ (a : ℕ) (es : List ℕ) where
   sum-literals (c ∷ cs) h =
       let s = sum-literals cs (search and-r) in
       by-cases (anyExist es c)
-      (λ e. rw (others-in es c cs e, touching-in es c cs e, share-in c e, assign-literals (negated a) c (touching es cs), assign-literals (plain a) c (touching es cs)) (omega (arith, sides-literals a c (search and-l))))
+      (λ e. rw (
+        others-in es c cs e,
+        touching-in es c cs e,
+        share-in c e,
+        assign-literals (negated a) c (touching es cs),
+        assign-literals (plain a) c (touching es cs),
+      )
+      (omega (arith, sides-literals a c (search and-l))))
       (λ e. rw (others-out es c cs e, touching-out es c cs e, literals-out c e) (omega arith))
 
   -- the raw clauses, the second side renamed

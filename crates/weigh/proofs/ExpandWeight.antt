@@ -1,17 +1,15 @@
 -- The weight of the result of step 7 is the sum, where no clause is a part of another.
 -- Assumes nothing.
-use mathlib.Core.Path.{_≡_, refl, sym, _∙_, ap, ap₂}
-use Prim.Native.Nat.{ℕ, zero, suc, _+_, _-_, _<_}
-use mathlib.Core.Bool.{Bool, true, false, _&&_, _||_, not, cond}
+use mathlib.Core.Path.{_≡_, refl, sym, _∙_, ap}
+use Prim.Native.Nat.{ℕ, suc, _+_, _-_, _<_}
+use mathlib.Core.Bool.{Bool, true, false, _&&_, _||_, not}
 use mathlib.Core.List.{List, [], _∷_, _++_, map}
 use native.Mathlib.Omega.{arith}
-use native.Mathlib.Nat.{not-suc-le-zero}
-use lib.Dec.{eqb, ltb, leb}
 use lib.ListN.{length, getD, take, drop}
 use borrow.Author.Tests.{lt-ltb, ne-eqb}
-use Rattle.meaning.specs.Lists.{allOf, anyOf, keepIf, partOf}
-use Rattle.meaning.specs.Formula.{Formula, var, odd, plain, negated, isVar, mentions, dropVar, universal, rightOf}
-use Rattle.meaning.specs.WellFormed.{goodPrefix, ascends, bound, reduced, tidyClause, wellFormed, literals, fits, weight}
+use Rattle.meaning.specs.Lists.{allOf, anyOf, partOf}
+use Rattle.meaning.specs.Formula.{Formula, odd, plain, negated, isVar, mentions}
+use Rattle.meaning.specs.WellFormed.{ascends, bound, reduced, tidyClause, wellFormed, literals, fits, weight}
 use Rattle.meaning.specs.Tidy.{build, tidied}
 use Rattle.rules.specs.Simplify.{assign, subsumePermitted, clauseAt, isClause}
 use Rattle.rules.specs.Eliminate.{expandPermitted, inner, fresh, renameLit, touching, others, expandWith, expandRaw}
@@ -20,7 +18,7 @@ use Rattle.rules.specs.Step.{permitted, rawOf, resultOf}
 use Rattle.table.specs.Table.{Holds}
 use Rattle.table.specs.declared.Counts.{Counts}
 use Rattle.permits.specs.Places.{placeOf}
-use Rattle.meaning.proofs.Basics.{clash, false-of, and-l, and-r, and-i, or-elim}
+use Rattle.meaning.proofs.Basics.{clash, false-of, and-i}
 use Rattle.meaning.proofs.Lists.{any-keep-le, all-all, all-le}
 use Rattle.meaning.proofs.Parts.{good-of, tidy-of, ascends-of, room-of}
 use Rattle.meaning.proofs.Prefix.{forall-mentioned}
@@ -32,13 +30,13 @@ use Rattle.table.proofs.HoldLaws.{count-variables, prefix-is}
 use Rattle.weigh.specs.Weights.{weighed, weighedStep, NoneSubsumed}
 use Rattle.weigh.specs.Expanding.{existentials, expandedClauses, expandedLiterals, expandedSize, weightOf, sizeFits, weighedSize}
 use Rattle.weigh.specs.declared.Weighed.{Weighed}
-use Rattle.weigh.specs.declared.Weighed.the-variants.{Over, Fitting, Wide}
+use Rattle.weigh.specs.declared.Weighed.the-variants.{Over}
 use Rattle.weigh.specs.declared.expanding.Size.{Size}
 use Rattle.weigh.proofs.ExpandLists.{noTwo, alike, eachOnce}
 use Rattle.weigh.proofs.ExpandBuild.{whole, whole-clauses, whole-literals}
 use Rattle.weigh.proofs.ExpandClauses.{Expands, newPrefix}
 use Rattle.weigh.proofs.ExpandParts.{nested, sound-all, apart-all}
-use Rattle.weigh.proofs.ExpandSums.{clausesBy, literalsBy, raw-clauses, raw-literals}
+use Rattle.weigh.proofs.ExpandSums.{raw-clauses, raw-literals}
 use Rattle.weigh.proofs.ExpandPlaces.{clauses-by, literals-by, inner-count}
 use Rattle.weigh.proofs.ExpandRoom.{new-length, new-fits}
 
@@ -55,7 +53,9 @@ unnested : (cs : List (List ℕ)) → Unnested cs → noTwo nested cs ≡ true
 unfolding noTwo nested
 unnested [] h = refl
 unnested (c ∷ cs) h =
-    and-i _ _ (ap not (none-at (λ d. partOf c d || partOf d c) cs (λ j k. rw (h 0 (suc j) (omega arith) (omega arith) (λ e. omega arith), h (suc j) 0 (omega arith) (omega arith) (λ e. omega arith)))))
+    and-i _ _
+    (ap not (none-at (λ d. partOf c d || partOf d c) cs (λ j k.
+    rw (h 0 (suc j) (omega arith) (omega arith) (λ e. omega arith), h (suc j) 0 (omega arith) (omega arith) (λ e. omega arith)))))
     (unnested cs (λ i j k l d. h (suc i) (suc j) (omega arith) (omega arith) (λ e. d (omega arith))))
 
 none-part : (φ : Formula) → NoneSubsumed φ → Unnested (φ .clauses)
@@ -89,7 +89,9 @@ module _ (φ : Formula) (w : wellFormed φ ≡ true) (a : ℕ) (ok : expandPermi
 
   -- the raw clauses, the new prefix and the result
   abbrev raws : List (List ℕ)
-  raws = others es (φ .clauses) ++ (assign (negated a) (touching es (φ .clauses)) ++ map (map (renameLit es fs)) (assign (plain a) (touching es (φ .clauses))))
+  raws =
+      others es (φ .clauses)
+      ++ (assign (negated a) (touching es (φ .clauses)) ++ map (map (renameLit es fs)) (assign (plain a) (touching es (φ .clauses))))
 
   abbrev q : List ℕ
   q = newPrefix p a es fs expands
@@ -151,12 +153,17 @@ mentions-some (q ∷ p) v m = omega arith
 
 module _ {φ : Formula} {t : List ℕ} {c : Counts} (h : Holds φ t c) (w : wellFormed φ ≡ true) (a below : ℕ) where
   -- n is the place of a, k counts the existentials behind it, s is the size of the clauses
-  pub weighed-held : (ok : expandPermitted φ a ≡ true) (none : NoneSubsumed φ) (n k : ℕ) (s : Size) → n ≡ placeOf (φ .prefix) a → k ≡ existentials (drop n (take (c .variables) t))
-      → s ≡ expandedSize (φ .prefix) n a (φ .clauses) → (r : Weighed) → r ≡ weighedSize below (c .variables) k s → r ≡ weighed below (resultOf φ expand a 0)
+  pub weighed-held : (ok : expandPermitted φ a ≡ true) (none : NoneSubsumed φ) (n k : ℕ) (s : Size) → n ≡ placeOf (φ .prefix) a
+      → k ≡ existentials (drop n (take (c .variables) t))
+      → s ≡ expandedSize (φ .prefix) n a (φ .clauses)
+      → (r : Weighed) → r ≡ weighedSize below (c .variables) k s → r ≡ weighed below (resultOf φ expand a 0)
   weighed-held ok none n k s at count sized r said =
       let m = inside φ w a ok in
-      let e : k ≡ length (inner a (φ .prefix)) = count ∙ (ap (λ (q : List ℕ). existentials (drop n q)) (prefix-is h) ∙ (ap (λ (i : ℕ). existentials (drop i (φ .prefix))) at ∙ inner-count (φ .prefix) a (good-of φ w) m)) in
-      let z : s ≡ expandedSize (φ .prefix) (placeOf (φ .prefix) a) a (φ .clauses) = sized ∙ ap (λ (i : ℕ). expandedSize (φ .prefix) i a (φ .clauses)) at in
+      let e : k ≡ length (inner a (φ .prefix)) =
+      count ∙ (ap (λ (q : List ℕ). existentials (drop n q)) (prefix-is h)
+      ∙ (ap (λ (i : ℕ). existentials (drop i (φ .prefix))) at ∙ inner-count (φ .prefix) a (good-of φ w) m)) in
+      let z : s ≡ expandedSize (φ .prefix) (placeOf (φ .prefix) a) a (φ .clauses) =
+      sized ∙ ap (λ (i : ℕ). expandedSize (φ .prefix) i a (φ .clauses)) at in
       said ∙ (rw (e, z, count-variables h) (sym (weighed-is φ w a ok none below (h .fitting))))
 
   module _ (b : Bool) (said : b ≡ expandPermitted φ a) where
@@ -172,5 +179,6 @@ module _ {φ : Formula} {t : List ℕ} {c : Counts} (h : Holds φ t c) (w : well
   pub step-none : c .variables ≡ 0 → Over ≡ weighedStep below φ expand a
   step-none e =
       step-not false
-      (sym (false-of (expandPermitted φ a) (λ ok. let m = mentions-some (φ .prefix) a (inside φ w a ok) in absurd (omega (arith, count-variables h)))))
+      (sym (false-of (expandPermitted φ a) (λ ok.
+      let m = mentions-some (φ .prefix) a (inside φ w a ok) in absurd (omega (arith, count-variables h)))))
       refl

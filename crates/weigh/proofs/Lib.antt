@@ -1,3 +1,12 @@
+pub mod ResolvPrefix
+pub mod ResolvBuild
+pub mod ResolvResult
+pub mod ResolvPairs
+pub mod ResolvSides
+pub mod ResolvPending
+pub mod ResolvFile
+pub mod ResolvWeigh
+pub mod ResolvStart
 pub mod ExpandLists
 pub mod ExpandBuild
 pub mod ExpandCopies

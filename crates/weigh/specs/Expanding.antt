@@ -37,7 +37,7 @@ clausesOf Stays = 1
 clausesOf Loses = 1
 clausesOf Doubles = 2
 
--- of a clause of m literals
+-- of a clause of m literals: so many are left
 unfoldable pub literalsOf : Share → ℕ → ℕ
 literalsOf Stays m = m
 literalsOf Loses m = m - 1

@@ -1,2 +1,3 @@
 pub mod Weights
+pub mod Resolving
 pub mod Expanding

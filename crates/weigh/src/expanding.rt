@@ -1,7 +1,7 @@
 // Step 7, expand: what its result would weigh, as a sum over the clauses. Where no clause is a part of another, no two clauses of the
 // result are equal and none loses more than the universal, so that the sum is exact.
 ghost use mathlib.Core.Path.{_≡_};
-ghost use Prim.Native.Nat.{ℕ, _*_, _≤_, _<_};
+ghost use Prim.Native.Nat.{ℕ, _≤_, _<_};
 ghost use mathlib.Core.Bool.{true};
 ghost use mathlib.Core.List.{List};
 ghost use lib.ListN.{length, drop};
@@ -105,6 +105,7 @@ fn share_of(clause: &[u16], ranks: &[u16], n: usize, a: usize) -> Share
     Share::Stays
 }
 
+// How many clauses a clause leaves.
 fn clauses_of(share: Share) -> usize
     ensures { λ r. ⌜ r ≡ clausesOf share ⌝ }
 {
@@ -115,7 +116,7 @@ fn clauses_of(share: Share) -> usize
     }
 }
 
-// Of a clause of m literals. One that loses a literal has one.
+// How many literals a clause of m leaves. Without any it has none to lose.
 fn literals_of(share: Share, m: usize) -> usize
     requires { ⌜ m ≤ 8191 ⌝ }
     ensures { λ r. ⌜ r ≡ literalsOf share m ⌝ }

@@ -1,7 +1,11 @@
 // What the results of steps 6 and 7 would weigh, without building them.
 mod expanding;
+mod resolvents;
+mod resolving;
+mod sides;
 
 pub use expanding::weigh_expand;
+pub use resolving::weigh_resolve;
 
 // A result is not lighter than the bound, or the step is not permitted; it is lighter, weighs so much and fits; it is lighter and passes a limit.
 pub enum Weighed {

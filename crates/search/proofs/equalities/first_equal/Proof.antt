@@ -1,7 +1,7 @@
 -- The loop's invariant: the first is among the numbers that are left.
 -- Assumes nothing.
 use Prim.Native.Nat.{_≤_, _-_}
-use mathlib.Core.Path.{_≡_, refl, sym, _∙_}
+use mathlib.Core.Path.{_≡_, refl}
 use native.Mathlib.Omega.{arith}
 use lib.ListN.{length, drop}
 use borrow.Author.Needs.{needs}
@@ -38,7 +38,8 @@ equality-permitted-requires c κs = search needs
 returns : tie.Need-returns Inv-loop μ-loop
 returns c =
     let l = c .before .before .before .before in
-    λ φ h. b-found (equalityPermitted φ _) _ _ (l .loop .i) (l .loop .inv .1 φ h) (omega arith) (sym (c .before .equality-permitted .ensures φ h) ∙ c .if1 .taken)
+    λ φ h. b-found (equalityPermitted φ _) _ _ (l .loop .i) (l .loop .inv .1 φ h) (omega arith) _
+    (c .before .equality-permitted .ensures φ h) (c .if1 .taken)
 
 add-i : tie.Need-add-i Inv-loop μ-loop
 add-i c = search needs
@@ -48,8 +49,11 @@ loop-less c = search needs
 
 loop-again : tie.Need-loop-again Inv-loop μ-loop
 loop-again c =
-    let l = c .before .before .before .before in
-    (search needs, λ φ h. b-next (equalityPermitted φ _) _ _ (l .loop .i) (l .loop .inv .1 φ h) (omega arith) (sym (c .before .equality-permitted .ensures φ h) ∙ c .if1 .left))
+    let l = c .before .before .before .before in (
+      search needs,
+      λ φ h. b-next (equalityPermitted φ _) _ _ (l .loop .i) (l .loop .inv .1 φ h) (omega arith) _
+          (c .before .equality-permitted .ensures φ h) (c .if1 .left),
+    )
 
 returns-2 : tie.Need-returns-2 Inv-loop μ-loop
 returns-2 c = let l = c .before in λ φ h. b-end (equalityPermitted φ _) _ _ (l .loop .i) (l .loop .inv .1 φ h) (omega arith)

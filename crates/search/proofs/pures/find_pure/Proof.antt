@@ -1,7 +1,7 @@
 -- The loop's invariant: the candidate is among the variables that are left.
 -- Assumes nothing.
 use Prim.Native.Nat.{ℕ, _≤_, _-_, _/_}
-use mathlib.Core.Path.{_≡_, refl, _∙_}
+use mathlib.Core.Path.{_≡_, refl}
 use native.Mathlib.Omega.{arith}
 use lib.ListN.{getD}
 use borrow.Author.Needs.{needs}
@@ -36,7 +36,8 @@ shared-slice-read-v : tie.Need-shared-slice-read-v Inv-loop μ-loop
 shared-slice-read-v c = let b = bounds (c .before .before .before .before .before .before .pre .0) in omega arith
 
 is-lone-requires : tie.Need-is-lone-requires Inv-loop μ-loop
-is-lone-requires c κs = (c .before .before .before .before .before .before .pre .1, omega (arith, c .shared-slice-known3 .given (c .before .before .before .loop .i)))
+is-lone-requires c κs =
+    (c .before .before .before .before .before .before .pre .1, omega (arith, c .shared-slice-known3 .given (c .before .before .before .loop .i)))
 
 cast-t11 : tie.Need-cast-t11 Inv-loop μ-loop
 cast-t11 c = omega (arith, c .before .before .shared-slice-known3 .given (c .before .before .before .before .before .loop .i))
@@ -48,7 +49,7 @@ returns c =
     let i = l .loop .i in
     let v = getD (l .before .before .before .args .t .now) i 0 / 2 in
     λ φ E h x. walk-found (by-variable h pure refl) E i (l .loop .inv .1 φ E h x) (omega arith) (Pair v 0)
-    (only-found φ pure v refl (pure-is h i (omega arith) _ (c .before .is-lone .ensures φ x) ∙ c .if2 .taken)) v 0 refl
+    (only-found φ pure v refl _ (pure-is h i (omega arith) _ (c .before .is-lone .ensures φ x)) (c .if2 .taken)) v 0 refl
 
 add-i : tie.Need-add-i Inv-loop μ-loop
 add-i c = let b = bounds (c .before .before .before .before .before .before .before .before .pre .0) in omega arith
@@ -64,7 +65,7 @@ loop-again c =
     let v = getD (l .before .before .before .args .t .now) i 0 / 2 in (
       search needs,
       λ φ E h x. walk-next (by-variable h pure refl) E i (l .loop .inv .1 φ E h x) (omega arith) Nothing
-          (only-none φ pure v refl (pure-is h i (omega arith) _ (c .before .is-lone .ensures φ x) ∙ c .if2 .left)) refl,
+          (only-none φ pure v refl _ (pure-is h i (omega arith) _ (c .before .is-lone .ensures φ x)) (c .if2 .left)) refl,
     )
 
 returns-2 : tie.Need-returns-2 Inv-loop μ-loop

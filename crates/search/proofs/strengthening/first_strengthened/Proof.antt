@@ -1,7 +1,7 @@
 -- The loop's invariant: the first is among the numbers that are left.
 -- Assumes nothing.
 use Prim.Native.Nat.{_≤_, _-_}
-use mathlib.Core.Path.{_≡_, refl, sym, _∙_}
+use mathlib.Core.Path.{_≡_, refl}
 use mathlib.Core.Bool.{true}
 use native.Mathlib.Omega.{arith}
 use lib.ListN.{length, getD, drop}
@@ -47,7 +47,8 @@ returns c =
 
 loop-holds : tie.Need-loop-holds Inv-loop μ-loop
 loop-holds c =
-    (search needs, λ φ h w q u. (strong-is φ _ _ _ (c .before .is-existential .ensures (φ .prefix) q (entries-of φ w (h .fitting))) (not-false _ (c .if1 .left)) u, refl))
+    let e = c .before .is-existential in
+    (search needs, λ φ h w q u. (strong-is φ _ _ _ (e .ensures (φ .prefix) q (entries-of φ w (h .fitting))) (not-false _ (c .if1 .left)) u, refl))
 
 mul-b : tie.Need-mul-b Inv-loop μ-loop
 mul-b c = search needs
@@ -65,7 +66,7 @@ returns-2 : tie.Need-returns-2 Inv-loop μ-loop
 returns-2 c =
     let l = c .before .before .before .before in
     λ φ h w q u. let s = l .loop .inv .1 φ h w q u in
-    b-found (strengthensBy φ _ _) _ _ (l .loop .k) (s .1) (omega arith) (sym (c .before .is-strengthened .ensures φ h (s .0)) ∙ c .if2 .taken)
+    b-found (strengthensBy φ _ _) _ _ (l .loop .k) (s .1) (omega arith) _ (c .before .is-strengthened .ensures φ h (s .0)) (c .if2 .taken)
 
 add-k : tie.Need-add-k Inv-loop μ-loop
 add-k c = search needs
@@ -77,8 +78,11 @@ loop-again : tie.Need-loop-again Inv-loop μ-loop
 loop-again c =
     let l = c .before .before .before .before in (
       search needs,
-      λ φ h w q u. let s = l .loop .inv .1 φ h w q u in
-          (s .0, b-next (strengthensBy φ _ _) _ _ (l .loop .k) (s .1) (omega arith) (sym (c .before .is-strengthened .ensures φ h (s .0)) ∙ c .if2 .left)),
+      λ φ h w q u. let s = l .loop .inv .1 φ h w q u in (
+        s .0,
+        b-next (strengthensBy φ _ _) _ _ (l .loop .k) (s .1) (omega arith) _
+            (c .before .is-strengthened .ensures φ h (s .0)) (c .if2 .left),
+      ),
     )
 
 returns-3 : tie.Need-returns-3 Inv-loop μ-loop

@@ -57,7 +57,8 @@ returns-2 c =
     let m = w .before in
     let y = m .before .before .before in
     λ φ h s. strong-back h _ _ _ (y .before .if1 .left) _ (y .clause-at .ensures φ h) s _ (m .before .other .ensures) _ (m .contains .ensures)
-    (w .if2 .taken) (y .before .before .before .before .before .pre .1) _ (p .part-of .ensures) (c .before .before .if3 .taken) _ (c .part-of2 .ensures)
+    (w .if2 .taken) (y .before .before .before .before .before .pre .1) _ (p .part-of .ensures)
+    (c .before .before .if3 .taken) _ (c .part-of2 .ensures)
 
 returns-3 : tie.Need-returns-3
 returns-3 c =
@@ -72,7 +73,8 @@ returns-4 : tie.Need-returns-4
 returns-4 c =
     let m = c .before in
     let y = m .before .before .before in
-    λ φ h s. strong-not h _ _ _ (y .before .if1 .left) _ (y .clause-at .ensures φ h) s _ (m .before .other .ensures) _ (m .contains .ensures) (c .if2 .left)
+    λ φ h s. strong-not h _ _ _ (y .before .if1 .left) _ (y .clause-at .ensures φ h) s _ (m .before .other .ensures) _
+    (m .contains .ensures) (c .if2 .left)
 
 pub is-strengthened-spec : {M : Type 1} → statement M
 is-strengthened-spec =

@@ -1,7 +1,7 @@
 -- The loop's invariant: the candidate is among the clauses that are left.
 -- Assumes nothing.
 use Prim.Native.Nat.{ℕ, _≤_, _-_}
-use mathlib.Core.Path.{_≡_, refl, sym, _∙_}
+use mathlib.Core.Path.{_≡_, refl}
 use native.Mathlib.Omega.{arith}
 use borrow.Author.Needs.{needs}
 use Rattle.meaning.specs.Formula.{Formula}
@@ -34,7 +34,7 @@ returns c =
     let l = c .before .before .before .before in
     let a = l .loop .a in
     λ φ E h. walk-found (by-clause h unit refl) E a (l .loop .inv .1 φ E h) (omega arith) (Pair a 0)
-    (only-found φ unit a refl (sym (c .before .unit-permitted .ensures φ h) ∙ c .if2 .taken)) a 0 refl
+    (only-found φ unit a refl _ (c .before .unit-permitted .ensures φ h) (c .if2 .taken)) a 0 refl
 
 add-a : tie.Need-add-a Inv-loop μ-loop
 add-a c = let b = bounds (c .before .before .before .before .before .before .pre) in omega arith
@@ -49,7 +49,7 @@ loop-again c =
     let a = l .loop .a in (
       search needs,
       λ φ E h. walk-next (by-clause h unit refl) E a (l .loop .inv .1 φ E h) (omega arith) Nothing
-          (only-none φ unit a refl (sym (c .before .unit-permitted .ensures φ h) ∙ c .if2 .left)) refl,
+          (only-none φ unit a refl _ (c .before .unit-permitted .ensures φ h) (c .if2 .left)) refl,
     )
 
 returns-2 : tie.Need-returns-2 Inv-loop μ-loop

@@ -14,7 +14,9 @@ use Rattle.weigh.proofs.expanding.does_reach.Statement.{statement}
 use Rattle.weigh.proofs.expanding.does_reach.Tie as tie
 
 abbrev Inv-loop : tie.InvT-loop
-Inv-loop clause ranks n i₀ i = (i ≤ length clause) × ((p : List ℕ) → ranks ≡ ranksOf p → goodEntries p ≡ true → reaches p n clause ≡ reaches p n (drop i clause))
+Inv-loop clause ranks n i₀ i =
+    (i ≤ length clause)
+    × ((p : List ℕ) → ranks ≡ ranksOf p → goodEntries p ≡ true → reaches p n clause ≡ reaches p n (drop i clause))
 
 abbrev μ-loop : tie.MeasureT-loop
 μ-loop clause ranks n i₀ i = length clause - i
@@ -32,7 +34,9 @@ is-inner-requires : tie.Need-is-inner-requires Inv-loop μ-loop
 is-inner-requires c κs = search needs
 
 returns : tie.Need-returns Inv-loop μ-loop
-returns c = let l = c .before .before .before .before in λ p e g. reach-found p _ _ (l .loop .i) (l .loop .inv .1 p e g) _ (c .before .is-inner .ensures p e g) (omega arith) (c .if1 .taken)
+returns c =
+    let l = c .before .before .before .before in
+    λ p e g. reach-found p _ _ (l .loop .i) (l .loop .inv .1 p e g) _ (c .before .is-inner .ensures p e g) (omega arith) (c .if1 .taken)
 
 add-i : tie.Need-add-i Inv-loop μ-loop
 add-i c = search needs
@@ -41,7 +45,9 @@ loop-less : tie.Need-loop-less Inv-loop μ-loop
 loop-less c = search needs
 
 loop-again : tie.Need-loop-again Inv-loop μ-loop
-loop-again c = let l = c .before .before .before .before in (search needs, λ p e g. reach-turn p _ _ (l .loop .i) (l .loop .inv .1 p e g) _ (c .before .is-inner .ensures p e g) (omega arith) (c .if1 .left))
+loop-again c =
+    let l = c .before .before .before .before in
+    (search needs, λ p e g. reach-turn p _ _ (l .loop .i) (l .loop .inv .1 p e g) _ (c .before .is-inner .ensures p e g) (omega arith) (c .if1 .left))
 
 returns-2 : tie.Need-returns-2 Inv-loop μ-loop
 returns-2 c = λ p e g. reach-end p _ _ (c .before .loop .i) (c .before .loop .inv .1 p e g) (omega arith)

@@ -1,7 +1,7 @@
 -- The loop's invariant: the clauses that are left make the whole.
 -- Assumes nothing.
 use Prim.Native.Nat.{_≤_, _-_, _*_}
-use mathlib.Core.Path.{_≡_, ap}
+use mathlib.Core.Path.{_≡_}
 use mathlib.Core.Bool.{true}
 use native.Mathlib.Omega.{arith}
 use borrow.Author.Needs.{needs}
@@ -16,7 +16,11 @@ use Rattle.weigh.proofs.expanding.expanded_size.Statement.{statement}
 use Rattle.weigh.proofs.expanding.expanded_size.Tie as tie
 
 abbrev Inv-loop : tie.InvT-loop
-Inv-loop t c ranks n a clauses₀ literals₀ i₀ clauses literals i = (i ≤ c .clauses) × (clauses ≤ 2 * i) × (literals ≤ 16382 * i) × ((φ : Formula) → Holds φ t c → wellFormed φ ≡ true → ranks ≡ ranksOf (φ .prefix) → Summing (φ .prefix) n a (φ .clauses) i clauses literals)
+Inv-loop t c ranks n a clauses₀ literals₀ i₀ clauses literals i =
+    (i ≤ c .clauses)
+    × (clauses ≤ 2 * i)
+    × (literals ≤ 16382 * i)
+    × ((φ : Formula) → Holds φ t c → wellFormed φ ≡ true → ranks ≡ ranksOf (φ .prefix) → Summing (φ .prefix) n a (φ .clauses) i clauses literals)
 
 abbrev μ-loop : tie.MeasureT-loop
 μ-loop t c ranks n a clauses₀ literals₀ i₀ clauses literals i = c .clauses - i

@@ -29,7 +29,9 @@ cast-if1 : tie.Need-cast-if1 Inv-loop μ-loop
 cast-if1 c = omega (arith, c .shared-slice-known .given (c .before .before .loop .i))
 
 returns : tie.Need-returns Inv-loop μ-loop
-returns c = let l = c .before .before .before in variable-found _ _ (l .loop .i) (l .loop .inv .1) (c .before .before .loop-test .taken) (c .if1 .taken)
+returns c =
+    let l = c .before .before .before in
+    variable-found _ _ (l .loop .i) (l .loop .inv .1) (c .before .before .loop-test .taken) (c .if1 .taken)
 
 add-i : tie.Need-add-i Inv-loop μ-loop
 add-i c = search needs
@@ -38,7 +40,9 @@ loop-less : tie.Need-loop-less Inv-loop μ-loop
 loop-less c = search needs
 
 loop-again : tie.Need-loop-again Inv-loop μ-loop
-loop-again c = let l = c .before .before .before in (search needs, variable-turn _ _ (l .loop .i) (l .loop .inv .1) (c .before .before .loop-test .taken) (c .if1 .left))
+loop-again c =
+    let l = c .before .before .before in
+    (search needs, variable-turn _ _ (l .loop .i) (l .loop .inv .1) (c .before .before .loop-test .taken) (c .if1 .left))
 
 returns-2 : tie.Need-returns-2 Inv-loop μ-loop
 returns-2 c = variable-end _ _ (c .before .loop .i) (c .before .loop .inv .1) (c .loop-test .left)

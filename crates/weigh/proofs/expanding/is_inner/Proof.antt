@@ -1,7 +1,6 @@
 -- By whether the variable is existential.
 -- Assumes nothing.
 use mathlib.Core.Path.{refl}
-use native.Mathlib.Omega.{arith}
 use borrow.Author.Needs.{needs}
 use Rattle.weigh.proofs.ExpandLoops.{inner-is, inner-not}
 use Rattle.weigh.proofs.expanding.is_inner.Statement.{statement}

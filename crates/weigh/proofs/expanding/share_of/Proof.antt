@@ -12,10 +12,14 @@ has-variable-requires : tie.Need-has-variable-requires
 has-variable-requires c κs = search needs
 
 returns : tie.Need-returns
-returns c = let r = c .before .before in λ p e g. share-loses p _ _ _ _ (r .before .does-reach .ensures p e g) (r .if1 .taken) _ (c .before .has-variable .ensures) (c .if2 .taken)
+returns c =
+    let r = c .before .before in
+    λ p e g. share-loses p _ _ _ _ (r .before .does-reach .ensures p e g) (r .if1 .taken) _ (c .before .has-variable .ensures) (c .if2 .taken)
 
 returns-2 : tie.Need-returns-2
-returns-2 c = let r = c .before .before in λ p e g. share-doubles p _ _ _ _ (r .before .does-reach .ensures p e g) (r .if1 .taken) _ (c .before .has-variable .ensures) (c .if2 .left)
+returns-2 c =
+    let r = c .before .before in
+    λ p e g. share-doubles p _ _ _ _ (r .before .does-reach .ensures p e g) (r .if1 .taken) _ (c .before .has-variable .ensures) (c .if2 .left)
 
 returns-3 : tie.Need-returns-3
 returns-3 c = λ p e g. share-stays p _ _ _ _ (c .before .does-reach .ensures p e g) (c .if1 .left)

@@ -32,13 +32,15 @@ weigh-size-requires c κs =
     let s = k .before .before .before .before .before in
     let v = bounds (s .pre .0) .variables in
     let few = take-few (s .args .c .variables) 1023 (s .args .t .now) v in
-    (s .pre .1 .1, v, existentials-few (take (s .args .c .variables) (s .args .t .now)) (k .before .before .place-of .result) _ 1023 (k .count-existentials .ensures) few, c .expanded-size .ensures .0)
+    let prefix = take (s .args .c .variables) (s .args .t .now) in
+    (s .pre .1 .1, v, existentials-few prefix (k .before .before .place-of .result) _ 1023 (k .count-existentials .ensures) few, c .expanded-size .ensures .0)
 
 returns : tie.Need-returns
 returns c =
     let s = c .before in
     let k = s .before in
-    λ φ h w e none ok. weighed-held h w _ _ ok none _ _ _ (k .before .before .place-of .ensures (φ .prefix) e (entries-of φ w (h .fitting))) (k .count-existentials .ensures)
+    λ φ h w e none ok. weighed-held h w _ _ ok none _ _ _
+    (k .before .before .place-of .ensures (φ .prefix) e (entries-of φ w (h .fitting))) (k .count-existentials .ensures)
     (s .expanded-size .ensures .1 φ h w e) _ (c .weigh-size .ensures)
 
 pub weigh-permitted-spec : {M : Type 1} → statement M

@@ -1,7 +1,6 @@
 -- By the bound, then by the limits.
 -- Assumes nothing.
 use mathlib.Core.Path.{refl}
-use native.Mathlib.Omega.{arith}
 use borrow.Author.Needs.{needs}
 use Rattle.weigh.specs.Expanding.{weightOf}
 use Rattle.weigh.proofs.ExpandLoops.{weighs-over, weighs-fitting, weighs-wide}

@@ -1,0 +1,108 @@
+-- A raw clause in the scratch: all literals of a clause but one, and tidying in place.
+-- Assumes nothing.
+use Prim.Native.Nat.{ℕ, _+_, _*_, _≤_, _<_}
+use mathlib.Core.Path.{_≡_, refl, sym, ap, subst, _∙_}
+use mathlib.Core.Bool.{Bool, true, false, _||_, not, cond}
+use mathlib.Core.List.{List, [], _∷_, _++_, append-assoc, append-nil}
+use lib.ListN.{length, getD, take}
+use lib.Seq.{take-suc, take-all}
+use lib.Dec.{eqb}
+use native.Mathlib.Numerals.{add-one}
+use native.Mathlib.Omega.{arith}
+use Rattle.meaning.specs.Lists.{allOf, anyOf, keepIf, has, same, without}
+use Rattle.meaning.specs.Formula.{plain, negated}
+use Rattle.meaning.specs.Tidy.{Tidied, ascending, bothPhases, stays, reduce, dropped, kept, tidySorted, tidy}
+use Rattle.meaning.specs.WellFormed.{goodPrefix}
+use Rattle.table.specs.Ranks.{ranksOf, reducedBy}
+use Rattle.table.specs.Pending.{Pends}
+use Rattle.table.specs.declared.Pending.{Pending}
+use Rattle.weigh.specs.Resolving.{resolvent, becomes, covers, tidiedIn}
+use Rattle.meaning.proofs.Basics.{false-of, clash, eqb-eq, eqb-ne, or-il, or-ir, or-elim}
+use Rattle.meaning.proofs.Lists.{any-append, any-ascending, any-keep-le, same-path, all-of-has}
+use Rattle.table.proofs.SortLaws.{both-ascending}
+use Rattle.table.proofs.ReduceLaws.{reduce-is}
+use Rattle.table.proofs.PendingLaws.{small-pending}
+
+-- All literals but one -------------------------------------------------------------------------------------------------
+without-append : (n : ℕ) (c d : List ℕ) → without n (c ++ d) ≡ without n c ++ without n d
+unfolding without keepIf
+without-append n [] d = refl
+without-append n (l ∷ c) d = go (not (eqb n l)) (without-append n c d)
+  where
+    go : (b : Bool) → without n (c ++ d) ≡ without n c ++ without n d → cond b (l ∷ without n (c ++ d)) (without n (c ++ d)) ≡ cond b (l ∷ without n c) (without n c) ++ without n d
+    go true ih = ap (λ (r : List ℕ). l ∷ r) ih
+    go false ih = ih
+
+module _ (raw s : List ℕ) (p : Pending) (out : ℕ) where
+  pub left-out : (l : ℕ) → l ≡ out → Pends raw s p → Pends (raw ++ without out (l ∷ [])) s p
+  unfolding without keepIf
+  left-out l e h = rw (eqb-eq (sym e), append-nil raw) h
+
+  pub put-in : (l : ℕ) → (l ≡ out → ⊥) → Pends (raw ++ (l ∷ [])) s p → Pends (raw ++ without out (l ∷ [])) s p
+  unfolding without keepIf
+  put-in l e h = rw (eqb-ne out l (λ d. e (sym d))) h
+
+  module _ (clause : List ℕ) where
+    pub others-start : Pends raw s p → Pends (raw ++ without out (take 0 clause)) s p
+    unfolding without keepIf
+    others-start h = rw (append-nil raw) h
+
+    module _ (i : ℕ) where
+      pub others-turn : i < length clause → Pends ((raw ++ without out (take i clause)) ++ without out (getD clause i 0 ∷ [])) s p → Pends (raw ++ without out (take (i + 1) clause)) s p
+      others-turn h k =
+          rw (add-one i, take-suc clause i 0 h, without-append out (take i clause) (getD clause i 0 ∷ []), ← append-assoc raw (without out (take i clause)) (without out (getD clause i 0 ∷ []))) k
+
+      pub others-end : length clause ≤ i → Pends (raw ++ without out (take i clause)) s p → Pends (raw ++ without out clause) s p
+      others-end h k = rw (take-all i clause h) at k
+
+-- Tidying in place -----------------------------------------------------------------------------------------------------
+module _ {raw s : List ℕ} {p : Pending} (d : Pends raw s p) (q : List ℕ) where
+  pub tidied-both : p .both ≡ true → tidiedIn s p ≡ tidy q raw
+  unfolding tidiedIn tidy tidySorted
+  tidied-both e = rw (both-ascending raw, ← d .phases, e)
+
+  pub tidied-one : p .both ≡ false → goodPrefix q ≡ true → (ranks : List ℕ) → ranks ≡ ranksOf q → (s′ : List ℕ) (m : ℕ)
+      → take m s′ ≡ reducedBy ranks (take (p .size) s) → tidiedIn s′ (record { size = m; both = false }) ≡ tidy q raw
+  unfolding tidiedIn tidy tidySorted
+  tidied-one e g ranks k s′ m is =
+      let f : take m s′ ≡ reduce q (ascending raw) =
+      is ∙ ap (λ (x : List ℕ). reducedBy x (take (p .size) s)) k ∙ reduce-is q g (take (p .size) s) (small-pending d e) ∙ ap (reduce q) (d .sorted e) in
+      rw (both-ascending raw, ← d .phases, e, f)
+
+-- what it is compared with
+module _ (s : List ℕ) (p : Pending) (x : Tidied) (is : tidiedIn s p ≡ x) (c : List ℕ) where
+  pub becomes-none : p .both ≡ true → false ≡ becomes c x
+  unfolding tidiedIn becomes
+  becomes-none e = rw (← is, e)
+
+  pub becomes-same : p .both ≡ false → (r : Bool) → r ≡ same c (take (p .size) s) → r ≡ becomes c x
+  unfolding tidiedIn becomes
+  becomes-same e r q = rw (← is, e) q
+
+-- the two literals of a variable are left out
+pub pair-pends : (x y s : List ℕ) (p : Pending) (a l : ℕ) → l ≡ 2 * a → Pends (([] ++ without l x) ++ without (l + 1) y) s p → Pends (resolvent a x y) s p
+unfolding resolvent plain negated
+pair-pends x y s p a l e h = rw e at h
+
+-- A resolvent's literals are of its two clauses ---------------------------------------------------------------------------
+left-of : (l n : ℕ) (c : List ℕ) → has l (without n c) ≡ true → has l c ≡ true
+unfolding has without
+left-of l n c h = any-keep-le (λ k. eqb l k) (λ k. not (eqb n k)) c h
+
+of-either : (q x y : List ℕ) (a l : ℕ) → has l (reduce q (ascending (resolvent a x y))) ≡ true → (has l x || has l y) ≡ true
+unfolding has reduce resolvent
+of-either q x y a l h =
+    let c = ascending (without (plain a) x ++ without (negated a) y) in
+    or-elim (has l (without (plain a) x)) (has l (without (negated a) y))
+    (sym (any-ascending (λ k. eqb l k) (without (plain a) x ++ without (negated a) y) ∙ any-append (λ k. eqb l k) (without (plain a) x) (without (negated a) y)) ∙ any-keep-le (λ k. eqb l k) (stays q c) c h)
+    (λ e. or-il (has l x) (has l y) (left-of l (plain a) x e)) (λ e. or-ir (has l x) (has l y) (left-of l (negated a) y e))
+
+pub not-covered : (q x y c : List ℕ) (a : ℕ) → covers x y c ≡ false → becomes c (tidy q (resolvent a x y)) ≡ false
+unfolding tidy tidySorted becomes covers
+not-covered q x y c a n = go (bothPhases (ascending (resolvent a x y)))
+  where
+    go : (b : Bool) → becomes c (cond b dropped (kept (reduce q (ascending (resolvent a x y))))) ≡ false
+    go true = refl
+    go false =
+        false-of (same c (reduce q (ascending (resolvent a x y))))
+        (λ e. clash {b = allOf (λ l. has l x || has l y) c} (rw (same-path c (reduce q (ascending (resolvent a x y))) e) (all-of-has (λ l. has l x || has l y) (reduce q (ascending (resolvent a x y))) (of-either q x y a))) n)

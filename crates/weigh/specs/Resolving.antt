@@ -1,0 +1,94 @@
+-- Step 6, resolve, resolvent by resolvent: what the k-th of them is, and the result with the first k only.
+-- Assumes nothing.
+use mathlib.Core.Path.{_≡_}
+use Prim.Native.Nat.{ℕ, _+_, _*_, _/_, _%_, _≤_}
+use mathlib.Core.Bool.{Bool, false, _||_, cond}
+use mathlib.Core.List.{List, [], _∷_, _++_}
+use lib.Dec.{ltb}
+use lib.ListN.{length, getD, take}
+use Rattle.meaning.specs.Lists.{allOf, anyOf, has, same, without}
+use Rattle.meaning.specs.Formula.{Formula, plain, negated, dropVar}
+use Rattle.meaning.specs.Tidy.{Tidied, dropped, kept, tidy, buildOn}
+use Rattle.rules.specs.Eliminate.{withLit, withoutVar, resolvents}
+use Rattle.table.specs.Table.{Holds}
+use Rattle.table.specs.declared.Counts.{Counts}
+use Rattle.table.specs.declared.Pending.{Pending}
+use Rattle.index.specs.Index.{Indexes}
+
+-- A formula in its table, and its index -----------------------------------------------------------------------------
+pub record Filed (φ : Formula) (t : List ℕ) (c : Counts) (index : List ℕ) : Type 0 where
+  pub holds : Holds φ t c
+  pub indexes : Indexes φ index
+
+pub record File (t : List ℕ) (c : Counts) (index : List ℕ) : Type 0 where
+  pub formula : Formula
+  pub filed : Filed formula t c index
+
+-- The prefix that is left, and the clauses that stay -----------------------------------------------------------------
+abbrev pub restOf : Formula → ℕ → List ℕ
+restOf φ a = dropVar a (φ .prefix)
+
+abbrev pub stayOf : Formula → ℕ → List (List ℕ)
+stayOf φ a = withoutVar a (φ .clauses)
+
+-- The literal by which a clause is looked for ---------------------------------------------------------------------------
+-- of two literals the one in fewer clauses; the first, where they are in as many
+unfoldable pub rarer : List (List ℕ) → ℕ → ℕ → ℕ
+rarer cs l k = cond (ltb (length (withLit k cs)) (length (withLit l cs))) k l
+
+-- of l and the literals of c
+unfoldable pub rarestOf : List (List ℕ) → ℕ → List ℕ → ℕ
+rarestOf cs l [] = l
+rarestOf cs l (k ∷ c) = rarestOf cs (rarer cs l k) c
+
+-- What a scratch and a record hold: a tidied clause, dropped, or in the first places -----------------------------------
+unfoldable pub tidiedIn : List ℕ → Pending → Tidied
+tidiedIn s p = cond (p .both) dropped (kept (take (p .size) s))
+
+-- The pairs ----------------------------------------------------------------------------------------------------------
+-- "by positive clause, then negative": the clauses of pair k
+unfoldable pub positiveAt : Formula → ℕ → ℕ → List ℕ
+positiveAt φ a k = getD (withLit (plain a) (φ .clauses)) (k / length (withLit (negated a) (φ .clauses))) []
+
+unfoldable pub negativeAt : Formula → ℕ → ℕ → List ℕ
+negativeAt φ a k = getD (withLit (negated a) (φ .clauses)) (k % length (withLit (negated a) (φ .clauses))) []
+
+-- the resolvent of two clauses, raw
+unfoldable pub resolvent : ℕ → List ℕ → List ℕ → List ℕ
+resolvent a x y = without (plain a) x ++ without (negated a) y
+
+-- every literal of the clause c is in one of the two
+unfoldable pub covers : List ℕ → List ℕ → List ℕ → Bool
+covers x y c = allOf (λ l. has l x || has l y) c
+
+-- what becomes of pair k
+unfoldable pub resolventAt : Formula → ℕ → ℕ → Tidied
+resolventAt φ a k = tidy (restOf φ a) (resolvent a (positiveAt φ a k) (negativeAt φ a k))
+
+-- all resolvents in order, raw; there is a pair k
+unfoldable pub rawResolvents : Formula → ℕ → List (List ℕ)
+rawResolvents φ a = resolvents a (withLit (plain a) (φ .clauses)) (withLit (negated a) (φ .clauses))
+
+unfoldable pub pairs : Formula → ℕ → ℕ
+pairs φ a = length (rawResolvents φ a)
+
+-- The result, step by step -------------------------------------------------------------------------------------------
+-- the result with the first k resolvents only
+unfoldable pub resolvedTo : Formula → ℕ → ℕ → Formula
+resolvedTo φ a k =
+    record { prefix = restOf φ a; clauses = buildOn (restOf φ a) (stayOf φ a) (take k (rawResolvents φ a)) }
+
+-- what was tidied is the clause c
+unfoldable pub becomes : List ℕ → Tidied → Bool
+becomes c dropped = false
+becomes c (kept d) = same c d
+
+-- one of the first k resolvents is the clause c
+unfoldable pub cameBefore : Formula → ℕ → ℕ → List ℕ → Bool
+cameBefore φ a k c = anyOf (λ raw. becomes c (tidy (restOf φ a) raw)) (take k (rawResolvents φ a))
+
+-- after k pairs: small enough counts for sums
+pub record Bounded (k : ℕ) (d : Counts) : Type 0 where
+  pub variables : d .variables ≤ 1023
+  pub clauses : d .clauses ≤ 2047 + k
+  pub all-literals : d .literals ≤ 8191 + 1023 * k

@@ -1,0 +1,308 @@
+// Step 6, resolve: the weight of its result, resolvent by resolvent.
+ghost use mathlib.Core.Path.{_≡_};
+ghost use Prim.Native.Nat.{_+_, _≤_, _<_};
+ghost use mathlib.Core.Bool.{true, false};
+ghost use lib.Dec.{leb};
+ghost use lib.ListN.{length};
+ghost use Rattle.meaning.specs.Lists.{allOf, anyOf, same};
+ghost use Rattle.meaning.specs.Formula.{Formula, var, mentions};
+ghost use Rattle.meaning.specs.WellFormed.{weight};
+ghost use Rattle.rules.specs.Eliminate.{resolvePermitted};
+ghost use Rattle.rules.specs.Entry.{resolve};
+ghost use Rattle.rules.specs.Step.{resultOf};
+ghost use Rattle.table.specs.Table.{countsOf, clauseMore};
+ghost use Rattle.index.specs.Index.{Indexes, Indexed};
+ghost use Rattle.index.specs.Study.{Studied, Study};
+ghost use Rattle.weigh.specs.Weights.{weighed, weighedStep};
+ghost use Rattle.weigh.specs.Resolving.{Filed, File, pairs, positiveAt, negativeAt, resolventAt, resolvedTo, tidiedIn, becomes, cameBefore, Bounded};
+use crate::Weighed;
+use crate::resolvents::is_resolvent;
+use crate::resolvents::resolve_pair;
+use crate::sides::clause_with;
+use crate::sides::count_with;
+use crate::sides::is_clause;
+use crate::sides::side_near;
+use crate::sides::side_size;
+use permits::first_universal;
+use permits::is_existential;
+use permits::place_of;
+use table::Counts;
+use table::Pending;
+
+// The positive clause of pair k.
+fn positive_at<'a>(t: &'a [u16], c: Counts, index: &[u16], a: usize, k: usize) -> &'a [u16]
+    requires { ⌜ File (now t) c (now index) ⌝ }
+    requires { ⌜ (a < 1024) × ((φ : Formula) → Indexes φ (now index) → k < pairs φ a) ⌝ }
+    ensures { λ r. ⌜ ((φ : Formula) → Filed φ (now (t .entry)) c (now (index .entry)) → now r ≡ positiveAt φ a k) ⌝ }
+{
+    let literal = 2 * a as u16;
+    let n = count_with(index, literal + 1);
+    clause_with(t, c, index, literal, k / n)
+}
+
+// The negative clause of pair k.
+fn negative_at<'a>(t: &'a [u16], c: Counts, index: &[u16], a: usize, k: usize) -> &'a [u16]
+    requires { ⌜ File (now t) c (now index) ⌝ }
+    requires { ⌜ (a < 1024) × ((φ : Formula) → Indexes φ (now index) → k < pairs φ a) ⌝ }
+    ensures { λ r. ⌜ ((φ : Formula) → Filed φ (now (t .entry)) c (now (index .entry)) → now r ≡ negativeAt φ a k) ⌝ }
+{
+    let literal = 2 * a as u16 + 1;
+    let n = count_with(index, literal);
+    clause_with(t, c, index, literal, k % n)
+}
+
+// How many pairs there are.
+fn pair_count(index: &[u16], a: usize) -> usize
+    requires { ⌜ Indexed (now index) ⌝ }
+    requires { ⌜ a < 1024 ⌝ }
+    ensures { λ r. ⌜ ((φ : Formula) → Indexes φ (now (index .entry)) → r ≡ pairs φ a) ⌝ }
+{
+    let literal = 2 * a as u16;
+    count_with(index, literal) * count_with(index, literal + 1)
+}
+
+// Whether the resolvent of pair k is the clause.
+fn gives(
+    t: &[u16],
+    c: Counts,
+    ranks: &[u16],
+    index: &[u16],
+    again: &mut [u16],
+    a: usize,
+    k: usize,
+    clause: &[u16],
+) -> bool
+    requires { ⌜ Study (now t) c (now ranks) (now index) ⌝ }
+    requires { ⌜ (length (now again) ≡ 1023) × (a < 1024) × ((φ : Formula) → Indexes φ (now index) → k < pairs φ a) ⌝ }
+    ensures { λ r. ⌜ ((φ : Formula) → Studied φ (now (t .entry)) c (now (ranks .entry)) (now (index .entry)) → r ≡ becomes (now (clause .entry)) (resolventAt φ a k)) ⌝ }
+{
+    let x = positive_at(t, c, index, a, k);
+    let y = negative_at(t, c, index, a, k);
+    is_resolvent(again, x, y, a, ranks, clause)
+}
+
+// Whether one of the first k resolvents is the clause: each is made again.
+fn came_before(
+    t: &[u16],
+    c: Counts,
+    ranks: &[u16],
+    index: &[u16],
+    again: &mut [u16],
+    a: usize,
+    k: usize,
+    clause: &[u16],
+) -> bool
+    requires { ⌜ Study (now t) c (now ranks) (now index) ⌝ }
+    requires { ⌜ (length (now again) ≡ 1023) × (a < 1024) × ((φ : Formula) → Indexes φ (now index) → k < pairs φ a) ⌝ }
+    ensures { λ r. ⌜ ((φ : Formula) → Studied φ (now (t .entry)) c (now (ranks .entry)) (now (index .entry)) → r ≡ cameBefore φ a k (now (clause .entry))) ⌝ }
+{
+    let mut j = 0;
+    while j < k {
+        if gives(t, c, ranks, index, again, a, j, clause) {
+            return true;
+        }
+        j += 1;
+    }
+    false
+}
+
+// Whether the clause, which does not have the variable, is there after the first k pairs.
+fn is_there(
+    t: &[u16],
+    c: Counts,
+    ranks: &[u16],
+    index: &[u16],
+    again: &mut [u16],
+    a: usize,
+    k: usize,
+    clause: &[u16],
+) -> bool
+    requires { ⌜ Study (now t) c (now ranks) (now index) ⌝ }
+    requires { ⌜ (length (now again) ≡ 1023) × (a < 1024) × ((φ : Formula) → Indexes φ (now index) → k < pairs φ a) ⌝ }
+    ensures { λ r. ⌜ ((φ : Formula) → Studied φ (now (t .entry)) c (now (ranks .entry)) (now (index .entry)) → mentions (now (clause .entry)) a ≡ false → r ≡ anyOf (same (now (clause .entry))) (resolvedTo φ a k .clauses)) ⌝ }
+{
+    if is_clause(t, c, index, clause) {
+        return true;
+    }
+    came_before(t, c, ranks, index, again, a, k, clause)
+}
+
+// The resolvent of pair k, tidied, in the scratch.
+fn resolvent_at(
+    t: &[u16],
+    c: Counts,
+    ranks: &[u16],
+    index: &[u16],
+    scratch: &mut [u16],
+    a: usize,
+    k: usize,
+) -> Pending
+    requires { ⌜ Study (now t) c (now ranks) (now index) ⌝ }
+    requires { ⌜ (length (now scratch) ≡ 1023) × (a < 1024) × ((φ : Formula) → Indexes φ (now index) → k < pairs φ a) ⌝ }
+    ensures { λ r. ⌜ r .size ≤ 1023 ⌝ }
+    ensures { λ r. ⌜ ((φ : Formula) → Studied φ (now (t .entry)) c (now (ranks .entry)) (now (index .entry)) → tidiedIn (now (scratch .exit)) r ≡ resolventAt φ a k) ⌝ }
+{
+    let x = positive_at(t, c, index, a, k);
+    let y = negative_at(t, c, index, a, k);
+    resolve_pair(scratch, x, y, a, ranks)
+}
+
+// The counts with a clause of so many literals more, whether it fits or not.
+fn with_more(d: Counts, size: usize) -> Counts
+    requires { ⌜ Bounded 5000000 d ⌝ }
+    requires { ⌜ size ≤ 1023 ⌝ }
+    ensures { λ r. ⌜ r ≡ clauseMore d size ⌝ }
+{
+    Counts {
+        variables: d.variables,
+        clauses: d.clauses + 1,
+        literals: d.literals + size,
+        second: d.second,
+    }
+}
+
+// The counts after pair k, from those before it.
+fn add_pair(
+    t: &[u16],
+    c: Counts,
+    ranks: &[u16],
+    index: &[u16],
+    scratch: &mut [u16],
+    again: &mut [u16],
+    a: usize,
+    k: usize,
+    d: Counts,
+) -> Counts
+    requires { ⌜ Study (now t) c (now ranks) (now index) ⌝ }
+    requires { ⌜ (length (now scratch) ≡ 1023) × (length (now again) ≡ 1023) × (a < 1024) × ((φ : Formula) → Indexes φ (now index) → k < pairs φ a) ⌝ }
+    requires { ⌜ Bounded k d ⌝ }
+    ensures { λ r. ⌜ Bounded (k + 1) r ⌝ }
+    ensures { λ r. ⌜ ((φ : Formula) → Studied φ (now (t .entry)) c (now (ranks .entry)) (now (index .entry)) → d ≡ countsOf (resolvedTo φ a k) (d .second) → r ≡ countsOf (resolvedTo φ a (k + 1)) (r .second)) ⌝ }
+{
+    let p = resolvent_at(t, c, ranks, index, scratch, a, k);
+    if p.both {
+        return d;
+    }
+    let m = p.size;
+    if is_there(t, c, ranks, index, again, a, k, &scratch[..m]) {
+        return d;
+    }
+    with_more(d, m)
+}
+
+// The weight of a formula with these counts.
+fn weight_of(d: Counts) -> usize
+    requires { ⌜ Bounded 5000000 d ⌝ }
+    ensures { λ r. ⌜ ((ψ : Formula) → d ≡ countsOf ψ (d .second) → r ≡ weight ψ) ⌝ }
+{
+    d.variables + (d.clauses + d.literals)
+}
+
+// What is said of a formula with these counts, whose prefix passes no limit.
+fn weigh_counts(d: Counts, below: usize) -> Weighed
+    requires { ⌜ Bounded 5000000 d ⌝ }
+    ensures { λ r. ⌜ ((ψ : Formula) → d ≡ countsOf ψ (d .second) → allOf (λ q. leb (var q) 1023) (ψ .prefix) ≡ true → r ≡ weighed below ψ) ⌝ }
+{
+    let w = weight_of(d);
+    if below <= w {
+        return Weighed::Over;
+    }
+    if Counts::CLAUSES < d.clauses {
+        return Weighed::Wide;
+    }
+    if Counts::LITERALS < d.literals {
+        return Weighed::Wide;
+    }
+    Weighed::Fitting(w)
+}
+
+// The counts of what is left without the variable: its clauses go.
+fn counts_left(t: &[u16], c: Counts, index: &[u16], a: usize) -> Counts
+    requires { ⌜ File (now t) c (now index) ⌝ }
+    requires { ⌜ (a < 1024) × (0 < c .variables) ⌝ }
+    ensures { λ r. ⌜ Bounded 0 r ⌝ }
+    ensures { λ r. ⌜ ((φ : Formula) → Filed φ (now (t .entry)) c (now (index .entry)) → mentions (φ .prefix) a ≡ true → r ≡ countsOf (resolvedTo φ a 0) (r .second)) ⌝ }
+{
+    let literal = 2 * a as u16;
+    let clauses = count_with(index, literal) + count_with(index, literal + 1);
+    let literals = side_size(t, c, index, literal) + side_size(t, c, index, literal + 1);
+    Counts {
+        variables: c.variables - 1,
+        clauses: c.clauses - clauses,
+        literals: c.literals - literals,
+        second: c.second,
+    }
+}
+
+// What is said of the result, where d counts what is left without the variable. It stops as soon as the bound is reached.
+fn weigh_pairs(
+    t: &[u16],
+    c: Counts,
+    ranks: &[u16],
+    index: &[u16],
+    scratch: &mut [u16],
+    again: &mut [u16],
+    a: usize,
+    d: Counts,
+    below: usize,
+) -> Weighed
+    requires { ⌜ Study (now t) c (now ranks) (now index) ⌝ }
+    requires { ⌜ (length (now scratch) ≡ 1023) × (length (now again) ≡ 1023) × (a < 1024) ⌝ }
+    requires { ⌜ Bounded 0 d ⌝ }
+    ensures { λ r. ⌜ ((φ : Formula) → Studied φ (now (t .entry)) c (now (ranks .entry)) (now (index .entry)) → d ≡ countsOf (resolvedTo φ a 0) (d .second) → r ≡ weighed below (resultOf φ resolve a 0)) ⌝ }
+{
+    let n = pair_count(index, a);
+    let mut e = d;
+    let mut k = 0;
+    while k < n {
+        if below <= weight_of(e) {
+            return Weighed::Over;
+        }
+        e = add_pair(t, c, ranks, index, scratch, again, a, k, e);
+        k += 1;
+    }
+    weigh_counts(e, below)
+}
+
+// Whether a is an existential that may be resolved: the clauses with it, by the index, have no variable behind the first universal.
+fn may_resolve(t: &[u16], c: Counts, ranks: &[u16], index: &[u16], a: usize) -> bool
+    requires { ⌜ Study (now t) c (now ranks) (now index) ⌝ }
+    requires { ⌜ a < 1024 ⌝ }
+    ensures { λ r. ⌜ ((φ : Formula) → Studied φ (now (t .entry)) c (now (ranks .entry)) (now (index .entry)) → r ≡ resolvePermitted φ a) ⌝ }
+{
+    if is_existential(ranks, a) {
+        let v = c.variables;
+        let n = first_universal(&t[..v], place_of(ranks, a));
+        let literal = 2 * a as u16;
+        if side_near(t, c, ranks, index, literal, n) {
+            return side_near(t, c, ranks, index, literal + 1, n);
+        }
+        return false;
+    }
+    false
+}
+
+// What the result of resolving a would weigh, against a bound.
+pub fn weigh_resolve(
+    t: &[u16],
+    c: Counts,
+    ranks: &[u16],
+    index: &[u16],
+    scratch: &mut [u16],
+    again: &mut [u16],
+    a: usize,
+    below: usize,
+) -> Weighed
+    requires { ⌜ Study (now t) c (now ranks) (now index) ⌝ }
+    requires { ⌜ (length (now scratch) ≡ 1023) × (length (now again) ≡ 1023) ⌝ }
+    ensures { λ r. ⌜ ((φ : Formula) → Studied φ (now (t .entry)) c (now (ranks .entry)) (now (index .entry)) → r ≡ weighedStep below φ resolve a) ⌝ }
+{
+    if Counts::VARIABLES < a {
+        return Weighed::Over;
+    }
+    if may_resolve(t, c, ranks, index, a) {
+        let d = counts_left(t, c, index, a);
+        return weigh_pairs(t, c, ranks, index, scratch, again, a, d, below);
+    }
+    Weighed::Over
+}
