@@ -14,6 +14,8 @@ use Rattle.rules.specs.Run.{isTRUE, isFALSE, finished, outOfRoom, ended, stoppe
 use Rattle.table.specs.Table.{countsOf}
 use Rattle.table.specs.declared.Counts.{Counts}
 use Rattle.apply.specs.Applied.{Stands}
+use Rattle.choice.specs.declared.End.{End}
+use Rattle.choice.specs.declared.End.the-variants as end
 use Rattle.course.specs.declared.Outcome.{Outcome}
 use Rattle.course.specs.declared.Outcome.the-variants.{True, False, Finished, OutOfRoom, Stopped}
 use Rattle.course.specs.declared.Running.{Running}
@@ -27,6 +29,13 @@ outcomeAs (ended isFALSE) = False
 outcomeAs (ended finished) = Finished
 outcomeAs (ended outOfRoom) = OutOfRoom
 outcomeAs stopped = Stopped
+
+-- the same, from the code's answer for a run that ends by itself
+unfoldable pub endedAs : End → Outcome
+endedAs end.True = True
+endedAs end.False = False
+endedAs end.Finished = Finished
+endedAs end.OutOfRoom = OutOfRoom
 
 unfoldable pub stopAs : rules.Stop → Stop
 stopAs allApplied = Applied

@@ -3,6 +3,11 @@ use table::Counts;
 
 mod between;
 mod logs;
+mod replays;
+mod runs;
+
+pub use replays::replay;
+pub use runs::run;
 
 // How a run ends.
 pub enum Outcome {

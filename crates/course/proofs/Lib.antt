@@ -1,0 +1,4 @@
+pub mod HereLaws
+pub mod ReplayLaws
+pub mod RunLaws
+pub mod StepLaws
