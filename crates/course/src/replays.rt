@@ -1,4 +1,5 @@
 // The replay of a log: its entries are applied one after the other, up to the first that is refused.
+ghost use mathlib.Core.Path.{_≡_};
 ghost use Rattle.meaning.specs.Formula.{Formula};
 ghost use Rattle.rules.specs.Run.{replayBytes};
 ghost use Rattle.apply.specs.Applied.{Lends, Lent};
@@ -11,6 +12,17 @@ use apply::Stepping;
 use apply::step;
 use table::Counts;
 
+// What is given back.
+fn ended(stop: Stop, counts: Counts, applied: usize) -> Replaying
+    ensures { λ r. ⌜ r ≡ record { stop = stop; counts = counts; applied = applied } ⌝ }
+{
+    Replaying {
+        stop: stop,
+        counts: counts,
+        applied: applied,
+    }
+}
+
 // A log whose length is no multiple of 4 is refused before any step.
 pub fn replay(first: &mut [u16], second: &mut [u16], c: Counts, log: &[u8]) -> Replaying
     requires { ⌜ Lent (now first) (now second) c ⌝ }
@@ -18,11 +30,7 @@ pub fn replay(first: &mut [u16], second: &mut [u16], c: Counts, log: &[u8]) -> R
 {
     clear_spare(first, second, c);
     if log.len() % 4 != 0 {
-        return Replaying {
-            stop: Stop::BadEntry,
-            counts: c,
-            applied: 0,
-        };
+        return ended(Stop::BadEntry, c, 0);
     }
     let mut d = c;
     let mut n: usize = 0;
@@ -34,32 +42,16 @@ pub fn replay(first: &mut [u16], second: &mut [u16], c: Counts, log: &[u8]) -> R
                 d = e;
             }
             Stepping::BadEntry => {
-                return Replaying {
-                    stop: Stop::BadEntry,
-                    counts: d,
-                    applied: n,
-                };
+                return ended(Stop::BadEntry, d, n);
             }
             Stepping::NotPermitted => {
-                return Replaying {
-                    stop: Stop::NotPermitted,
-                    counts: d,
-                    applied: n,
-                };
+                return ended(Stop::NotPermitted, d, n);
             }
             Stepping::NoRoom => {
-                return Replaying {
-                    stop: Stop::NoRoom,
-                    counts: d,
-                    applied: n,
-                };
+                return ended(Stop::NoRoom, d, n);
             }
         }
         n += 1;
     }
-    Replaying {
-        stop: Stop::Applied,
-        counts: d,
-        applied: n,
-    }
+    ended(Stop::Applied, d, n)
 }

@@ -24,16 +24,19 @@ use Rattle.reader.specs.declared.turns.Outcome.{Outcome}
 use Rattle.reader.specs.declared.turns.Outcome.the-variants.{Taken, Refused}
 use Rattle.meaning.proofs.Basics.{false-of, and-l, and-r, and-i, eqb-true, eqb-eq}
 use Rattle.table.proofs.HoldLaws.{empty-holds}
+use Rattle.table.proofs.TableLaws.{table-empty}
 use Rattle.table.proofs.RankLaws.{ranks-none}
 use Rattle.table.proofs.PendingLaws.{pends-empty}
+use Rattle.marks.proofs.PushLaws.{marks-none}
 
--- an empty table, scratch and ranks hold the start
-pub starts : (t : List ℕ) → t ≡ tableOf emptyFormula → Tracks start fresh t (replicate 1023 0) (replicate 1024 0)
+-- an empty table, scratch, ranks and marks hold the start
+pub starts : (t m : List ℕ) → t ≡ tableOf emptyFormula → m ≡ tableOf emptyFormula → Tracks start fresh t (replicate 1023 0) (replicate 1024 0) m
 unfolding start soFar tidied build buildOn emptyFormula
-starts t e =
+starts t m e z =
     record {
       stores = record { phase = refl; m = refl; c = refl; closed = refl; table = empty-holds t _ false e refl; first = unfold countsOf in refl; ranks = ranks-none };
       pending = pends-empty (replicate 1023 0) emptyPending refl (length-replicate {A = ℕ} 1023 0);
+      marked = rw (z, ← table-empty) marks-none;
     }
 
 module _ (text a b : List ℕ) where

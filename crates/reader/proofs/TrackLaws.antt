@@ -25,6 +25,7 @@ use Rattle.table.specs.declared.Counts.{Counts}
 use Rattle.table.specs.declared.Pending.{Pending}
 use Rattle.table.specs.declared.Pushed.{Pushed}
 use Rattle.table.specs.declared.Pushed.the-variants.{Done, Full}
+use Rattle.marks.specs.Marks.{Marked, Went}
 use Rattle.reader.specs.Tracks.{soFar, inPhase, withM, withC, withEntry, withPending, withClosed, Stores, Tracks, Allowed, entered, Entered, Steps}
 use Rattle.reader.specs.declared.moves.Reader.{Reader}
 use Rattle.reader.specs.declared.moves.Stepped.the-variants.{Stop, On}
@@ -89,6 +90,10 @@ module _ (st : State) (r : Reader) (t k : List ℕ) (h : Stores st r t k) (e : �
           pending = refl;
         })
 
+-- the table and the marks of a state
+pub tracks-marked : {st : State} {r : Reader} {t s k m : List ℕ} → Tracks st r t s k m → Marked t (r .counts) m
+tracks-marked {st} h = record { formula = soFar st; holds = h .stores .table; marks = h .marked }
+
 -- A closing 0 --------------------------------------------------------------------------------------------------
 build-on-snoc : (p : List ℕ) (cs raws : List (List ℕ)) (raw : List ℕ) → buildOn p cs (raws ++ (raw ∷ [])) ≡ addTidied (buildOn p cs raws) (tidy p raw)
 unfolding buildOn
@@ -103,7 +108,7 @@ closed-formula : (st : State) → soFar (closing st) ≡ withRaw (soFar st) (st 
 unfolding closing soFar tidied withRaw build
 closed-formula st = λ i. record { prefix = st .prefix; clauses = build-on-snoc (st .prefix) [] (st .clauses) (st .pending) i }
 
-module _ (st : State) (r : Reader) (t s k : List ℕ) (h : Tracks st r t s k) (a : Allowed st Close) where
+module _ (st : State) (r : Reader) (t s k m : List ℕ) (h : Tracks st r t s k m) (a : Allowed st Close) where
   pub close-few : r .closed ≤ maxClauses
   close-few = omega (arith, h .stores .closed, a .1)
 
@@ -128,14 +133,18 @@ module _ (st : State) (r : Reader) (t s k : List ℕ) (h : Tracks st r t s k) (a
         literals = ltb-false maxLiterals _ f;
       })
 
-  module _ (x : Pushed) (t′ : List ℕ) (b : Became (soFar st) (withRaw (soFar st) (st .pending)) (r .counts .second) x t′) (at : ℕ) where
+  module _ (x : Pushed) (t′ m′ : List ℕ) (w : Went (soFar st) (withRaw (soFar st) (st .pending)) (r .counts .second) x t′ m′) (at : ℕ) where
+    abbrev b : Became (soFar st) (withRaw (soFar st) (st .pending)) (r .counts .second) x t′
+    b = w .became
+
     pub close-full : x ≡ Full → act st at Close ≡ faulty TOO-BIG at
     unfolding act
     close-full f =
         by-cases passes (λ p. rw p)
         (λ p. clash (rw (closed-formula st) at (passes-fits p)) (became-full _ _ _ _ _ b f))
 
-    pub close-done : (d : Counts) → x ≡ Done d → (n : Reader) → n ≡ withClosed r d → (s′ : List ℕ) → length s′ ≡ length s → Steps st at Close (On n) t′ s′ k
+    pub close-done : (d : Counts) → x ≡ Done d → (n : Reader) → n ≡ withClosed r d → (s′ : List ℕ) → length s′ ≡ length s
+        → Steps st at Close (On n) t′ s′ k m′
     unfolding act closing
     close-done d f n q s′ long = (
       closing st,
@@ -151,31 +160,83 @@ module _ (st : State) (r : Reader) (t s k : List ℕ) (h : Tracks st r t s k) (a
           ranks = h .stores .ranks;
         };
         pending = pends-empty s′ emptyPending refl (long ∙ h .pending .room);
+        marked = rw (closed-formula st) (rw (became-fits _ _ _ _ _ b d f) at (w .marks));
       }),
     )
 
 -- A move, as the code matches it ------------------------------------------------------------------------------
-module _ (st : State) (r : Reader) (t s k : List ℕ) (h : Tracks st r t s k) (at : ℕ) (mv : Move) where
-  pub step-fault : (x : ℕ) → mv ≡ Fault x → Steps st at mv (Stop x) t s k
+module _ (st : State) (r : Reader) (t s k m : List ℕ) (h : Tracks st r t s k m) (at : ℕ) (mv : Move) where
+  pub step-fault : (x : ℕ) → mv ≡ Fault x → Steps st at mv (Stop x) t s k m
   unfolding act
   step-fault x e = rw e
 
-  pub step-go : (ph : Phase) → mv ≡ Go ph → (n : Reader) → n ≡ inPhase r ph → Steps st at mv (On n) t s k
+  pub step-go : (ph : Phase) → mv ≡ Go ph → (n : Reader) → n ≡ inPhase r ph → Steps st at mv (On n) t s k m
   unfolding act soFar
-  step-go ph e n q = rw (e, q) (_, refl, record { stores = record { phase = refl; m = h .stores .m; c = h .stores .c; closed = h .stores .closed; table = h .stores .table; first = h .stores .first; ranks = h .stores .ranks }; pending = h .pending })
+  step-go ph e n q =
+      let o = h .stores in
+      rw (e, q) (
+        _,
+        refl,
+        record {
+          stores = record { phase = refl; m = o .m; c = o .c; closed = o .closed; table = o .table; first = o .first; ranks = o .ranks };
+          pending = h .pending;
+          marked = h .marked;
+        },
+      )
 
-  pub step-m : (x : ℕ) → mv ≡ SetM x → (n : Reader) → n ≡ withM r x → Steps st at mv (On n) t s k
+  pub step-m : (x : ℕ) → mv ≡ SetM x → (n : Reader) → n ≡ withM r x → Steps st at mv (On n) t s k m
   unfolding act soFar
-  step-m x e n q = rw (e, q) (_, refl, record { stores = record { phase = refl; m = refl; c = h .stores .c; closed = h .stores .closed; table = h .stores .table; first = h .stores .first; ranks = h .stores .ranks }; pending = h .pending })
+  step-m x e n q =
+      let o = h .stores in
+      rw (e, q) (
+        _,
+        refl,
+        record {
+          stores = record { phase = refl; m = refl; c = o .c; closed = o .closed; table = o .table; first = o .first; ranks = o .ranks };
+          pending = h .pending;
+          marked = h .marked;
+        },
+      )
 
-  pub step-c : (x : ℕ) → mv ≡ SetC x → (n : Reader) → n ≡ withC r x → Steps st at mv (On n) t s k
+  pub step-c : (x : ℕ) → mv ≡ SetC x → (n : Reader) → n ≡ withC r x → Steps st at mv (On n) t s k m
   unfolding act soFar
-  step-c x e n q = rw (e, q) (_, refl, record { stores = record { phase = refl; m = h .stores .m; c = refl; closed = h .stores .closed; table = h .stores .table; first = h .stores .first; ranks = h .stores .ranks }; pending = h .pending })
+  step-c x e n q =
+      let o = h .stores in
+      rw (e, q) (
+        _,
+        refl,
+        record {
+          stores = record { phase = refl; m = o .m; c = refl; closed = o .closed; table = o .table; first = o .first; ranks = o .ranks };
+          pending = h .pending;
+          marked = h .marked;
+        },
+      )
 
-  pub step-entry : (x : ℕ) → mv ≡ Entry x → (n : Reader) (t′ k′ : List ℕ) → Entered st r x n t′ k′ → Steps st at mv (On n) t′ s k′
+  pub step-entry : (x : ℕ) → mv ≡ Entry x → Allowed st (Entry x) → (n : Reader) (t′ k′ : List ℕ) → Entered st r x n t′ k′
+      → Steps st at mv (On n) t′ s k′ m
   unfolding act entered
-  step-entry x e n t′ k′ d = rw e (_, refl, record { stores = d .stores; pending = rw (d .pending) (h .pending) })
+  step-entry x e a n t′ k′ d =
+      rw e (
+        _,
+        refl,
+        record {
+          stores = d .stores;
+          pending = rw (d .pending) (h .pending);
+          marked = rw (entered-formula st x (a .2)) (unfold withVariable in h .marked);
+        },
+      )
 
-  pub step-literal : (x : ℕ) → mv ≡ Literal x → (n : Reader) (q : Pending) → n ≡ withPending r q → (s′ : List ℕ) → Pends (st .pending ++ (x ∷ [])) s′ q → Steps st at mv (On n) t s′ k
+  pub step-literal : (x : ℕ) → mv ≡ Literal x → (n : Reader) (q : Pending) → n ≡ withPending r q → (s′ : List ℕ)
+      → Pends (st .pending ++ (x ∷ [])) s′ q → Steps st at mv (On n) t s′ k m
   unfolding act soFar
-  step-literal x e n q p s′ d = rw (e, p) (_, refl, record { stores = record { phase = refl; m = h .stores .m; c = h .stores .c; closed = h .stores .closed; table = h .stores .table; first = h .stores .first; ranks = h .stores .ranks }; pending = d })
+  step-literal x e n q p s′ d =
+      let o = h .stores in
+      rw (e, p) (
+        _,
+        refl,
+        record {
+          stores = record { phase = refl; m = o .m; c = o .c; closed = o .closed; table = o .table; first = o .first; ranks = o .ranks };
+          pending = d;
+          marked = h .marked;
+        },
+      )

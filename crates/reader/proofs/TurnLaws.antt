@@ -1,5 +1,5 @@
--- The reader's loop: what is read so far is a state of the definition's reading, and the record, the table, the scratch and
--- the ranks hold it. One law for the start, one for each way a turn ends, one for the end.
+-- The reader's loop: what is read so far is a state of the definition's reading, and the record, the table, the scratch, the
+-- ranks and the marks hold it. One law for the start, one for each way a turn ends, one for the end.
 -- Assumes nothing.
 use mathlib.Core.Path.{_≡_, refl, sym, ap, _∙_, subst}
 use mathlib.Core.Bool.{true, false, cond, _&&_}
@@ -54,12 +54,12 @@ filled-fault : (s : List ℕ) (k a : ℕ) → read s ≡ fault k a → (o : Outc
 unfolding outcomeOf
 filled-fault s k a e o q t = record { outcome = rw e q; left = rw e tt }
 
-pub record Filling (s : List ℕ) (at : ℕ) (r : Reader) (t w k : List ℕ) : Type 0 where
+pub record Filling (s : List ℕ) (at : ℕ) (r : Reader) (t w k m : List ℕ) : Type 0 where
   pub state : State
   pub reached : Reached s at state
-  pub tracks : Tracks state r t w k
+  pub tracks : Tracks state r t w k m
 
-pub filling-start : (s : List ℕ) (at : ℕ) → at ≡ preamble false s → (r : Reader) → r ≡ fresh → {t w k : List ℕ} → Tracks start fresh t w k → Filling s at r t w k
+pub filling-start : (s : List ℕ) (at : ℕ) → at ≡ preamble false s → (r : Reader) → r ≡ fresh → {t w k m : List ℕ} → Tracks start fresh t w k m → Filling s at r t w k m
 filling-start s at e r q h = record { state = start; reached = reached-start s at e; tracks = rw q h }
 
 last-bound : (p raw : List ℕ) (l : ℕ) → bound p (raw ++ (l ∷ [])) ≡ true → mentions p (var l) ≡ true
@@ -77,7 +77,7 @@ right-numbers st h =
     all-le (λ q. leb (var q) (st .m)) (λ q. leb (var q) maxVariables) (st .prefix)
     (λ q e. le-leb (var q) maxVariables (omega (arith, leb-true (var q) (st .m) e, h .small))) (h .numbers)
 
-module _ (s : List ℕ) (at : ℕ) (r : Reader) (t w k : List ℕ) (f : Filling s at r t w k) where
+module _ (s : List ℕ) (at : ℕ) (r : Reader) (t w k m : List ℕ) (f : Filling s at r t w k m) where
   abbrev st : State
   st = f .state
 
@@ -131,12 +131,13 @@ module _ (s : List ℕ) (at : ℕ) (r : Reader) (t w k : List ℕ) (f : Filling 
         (right .good, right .clauses, λ z. let h = later (closing st) (rw (q, z)) in omega (arith, h .clauses, length-append (st .clauses) (st .pending ∷ [])))
 
     -- what the move asks for
-    pub turn-ready : Ready r mv t w k
+    pub turn-ready : Ready r mv t w k m
     turn-ready = record { state = st; tracks = f .tracks; allowed = allowed mv refl }
 
-    module _ (t′ w′ k′ : List ℕ) (o : Stepped) (went : (st : State) (at : ℕ) → Tracks st r t w k → Allowed st mv → Steps st at mv o t′ w′ k′) where
-      steps : (x : Stepped) → o ≡ x → Steps st a mv x t′ w′ k′
-      steps x q = subst (λ (o : Stepped). Steps st a mv o t′ w′ k′) q (went st a (f .tracks) (allowed mv refl))
+    module _ (t′ w′ k′ m′ : List ℕ) (o : Stepped)
+        (went : (st : State) (at : ℕ) → Tracks st r t w k m → Allowed st mv → Steps st at mv o t′ w′ k′ m′) where
+      steps : (x : Stepped) → o ≡ x → Steps st a mv x t′ w′ k′ m′
+      steps x q = subst (λ (o : Stepped). Steps st a mv o t′ w′ k′ m′) q (went st a (f .tracks) (allowed mv refl))
 
       -- the move is a fault
       pub turn-stop : length s ≤ maxText → (x : ℕ) → o ≡ Stop x → Filled s (Refused x a) t′
@@ -145,7 +146,7 @@ module _ (s : List ℕ) (at : ℕ) (r : Reader) (t w k : List ℕ) (f : Filling 
           filled-fault s x a (read-is s short ∙ rw (reached-fault s at st (f .reached) a e next word mv spelt moved x a (steps (Stop x) q))) (Refused x a) refl t′
 
       -- the reader goes on
-      pub turn-on : (n : Reader) → o ≡ On n → Filling s e n t′ w′ k′
+      pub turn-on : (n : Reader) → o ≡ On n → Filling s e n t′ w′ k′ m′
       turn-on n q =
           let h = steps (On n) q in
           record { state = h .0; reached = reached-next s at st (f .reached) a e next word mv spelt moved (h .0) (h .1); tracks = h .2 }

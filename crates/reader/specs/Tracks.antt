@@ -1,5 +1,5 @@
 -- The state of reading, as the code has it: its record, the table of the formula so far, the scratch that holds the open
--- clause, and the ranks of the prefix.
+-- clause, the ranks of the prefix, and the marks of the clauses so far.
 -- Assumes nothing.
 use mathlib.Core.Path.{_≡_}
 use mathlib.Core.Bool.{true, false}
@@ -21,6 +21,7 @@ use Rattle.table.specs.Ranks.{ranksOf}
 use Rattle.table.specs.Pending.{emptyPending, Pends}
 use Rattle.table.specs.declared.Counts.{Counts}
 use Rattle.table.specs.declared.Pending.{Pending}
+use Rattle.marks.specs.Marks.{Marks}
 use Rattle.reader.specs.declared.moves.Reader.{Reader}
 use Rattle.reader.specs.declared.moves.Stepped.{Stepped}
 use Rattle.reader.specs.declared.moves.Stepped.the-variants.{Stop, On}
@@ -63,10 +64,11 @@ pub record Stores (st : State) (r : Reader) (t k : List ℕ) : Type 0 where
   pub first : r .counts .second ≡ false
   pub ranks : k ≡ ranksOf (st .prefix)
 
--- and the scratch holds the open clause
-pub record Tracks (st : State) (r : Reader) (t scratch ranks : List ℕ) : Type 0 where
+-- and the scratch holds the open clause, and the marks are right
+pub record Tracks (st : State) (r : Reader) (t scratch ranks marks : List ℕ) : Type 0 where
   pub stores : Stores st r t ranks
   pub pending : Pends (st .pending) scratch (r .pending)
+  pub marked : Marks (soFar st .clauses) marks
 
 -- What a move needs -------------------------------------------------------------------------------------------
 -- so much is known of a move that reading comes to: an entry's variable is new and in range, and no clause is there yet; a
@@ -89,9 +91,9 @@ pub record Entering (r : Reader) (e : ℕ) (t ranks : List ℕ) : Type 0 where
   pub stores : Stores state r t ranks
   pub allowed : Allowed state (Entry e)
 
-pub record Ready (r : Reader) (mv : Move) (t scratch ranks : List ℕ) : Type 0 where
+pub record Ready (r : Reader) (mv : Move) (t scratch ranks marks : List ℕ) : Type 0 where
   pub state : State
-  pub tracks : Tracks state r t scratch ranks
+  pub tracks : Tracks state r t scratch ranks marks
   pub allowed : Allowed state mv
 
 -- What comes of it --------------------------------------------------------------------------------------------
@@ -104,6 +106,6 @@ pub record Entered (st : State) (r : Reader) (e : ℕ) (n : Reader) (t ranks : L
   pub pending : n .pending ≡ r .pending
 
 -- the definition's step from the state, as the code takes it: the same fault, or a state that is held
-abbrev pub Steps : State → ℕ → Move → Stepped → List ℕ → List ℕ → List ℕ → Type 0
-Steps st at mv (Stop k) t scratch ranks = act st at mv ≡ faulty k at
-Steps st at mv (On r) t scratch ranks = (st′ : State) × (act st at mv ≡ reads st′) × Tracks st′ r t scratch ranks
+abbrev pub Steps : State → ℕ → Move → Stepped → List ℕ → List ℕ → List ℕ → List ℕ → Type 0
+Steps st at mv (Stop k) t scratch ranks marks = act st at mv ≡ faulty k at
+Steps st at mv (On r) t scratch ranks marks = (st′ : State) × (act st at mv ≡ reads st′) × Tracks st′ r t scratch ranks marks

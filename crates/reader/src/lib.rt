@@ -89,7 +89,7 @@ fn refuse(k: u8, offset: usize) -> Reading
     }
 }
 
-// Reads a text into the first table, whatever the tables hold.
+// Reads a text into the first table, whatever the tables hold. Meanwhile the second holds the marks of the clauses read so far.
 pub fn read(text: &[u8], first: &mut [u16], second: &mut [u16]) -> Reading
     ensures { λ r. ⌜ Reads (now (text .entry)) (now (first .entry)) (now (second .entry)) r (now (first .exit)) (now (second .exit)) ⌝ }
 {
@@ -106,7 +106,9 @@ pub fn read(text: &[u8], first: &mut [u16], second: &mut [u16]) -> Reading
     zero(second);
     let mut scratch = [0u16; 1023];
     let mut ranks = [0u16; 1024];
-    match fill(text, first, &mut scratch, &mut ranks) {
+    let outcome = fill(text, first, &mut scratch, &mut ranks, second);
+    zero(second);
+    match outcome {
         Outcome::Taken(counts) => Reading {
             answer: Answer::Read,
             offset: 0,

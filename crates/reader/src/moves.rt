@@ -1,20 +1,20 @@
 // What each move does: to the record of the reader, to the table of the formula so far, to the scratch that holds the open
-// clause, and to the ranks of the prefix.
+// clause, to the ranks of the prefix, and to the marks of the clauses so far.
 ghost use mathlib.Core.Path.{_≡_};
 ghost use Prim.Native.Nat.{ℕ, _≤_};
 ghost use Rattle.meaning.specs.WellFormed.{maxClauses};
 ghost use Rattle.qdimacs.specs.Read.{State, complete, afterClause};
 ghost use Rattle.qdimacs.specs.declared.Move.the-variants.{Entry, Close};
 ghost use Rattle.reader.specs.Tracks.{fresh, inPhase, withM, withC, withEntry, withPending, withClosed, Stores, Tracks, Allowed, Entering, Entered, Ready, Steps};
+use marks::close_marked;
+use marks::put_sorted;
 use qdimacs::Move;
 use qdimacs::Phase;
 use table::Counts;
 use table::Pending;
 use table::Pushed;
 use table::add_rank;
-use table::close_clause;
 use table::push_variable;
-use table::put_literal;
 
 // What is read so far: the phase, M, C, the clauses closed, as written; the counts of the table, the open clause.
 pub struct Reader {
@@ -186,13 +186,19 @@ pub fn add_entry(r: Reader, entry: u16, table: &mut [u16], ranks: &mut [u16]) ->
 }
 
 // A clause is complete.
-pub fn close(r: Reader, table: &mut [u16], scratch: &mut [u16], ranks: &[u16]) -> Stepped
-    requires { ⌜ Ready r Close (now table) (now scratch) (now ranks) ⌝ }
-    ensures { λ o. ⌜ ((st : State) (at : ℕ) → Tracks st r (now (table .entry)) (now (scratch .entry)) (now (ranks .entry)) → Allowed st Close → Steps st at Close o (now (table .exit)) (now (scratch .exit)) (now (ranks .entry))) ⌝ }
+pub fn close(
+    r: Reader,
+    table: &mut [u16],
+    scratch: &mut [u16],
+    ranks: &[u16],
+    marks: &mut [u16],
+) -> Stepped
+    requires { ⌜ Ready r Close (now table) (now scratch) (now ranks) (now marks) ⌝ }
+    ensures { λ o. ⌜ ((st : State) (at : ℕ) → Tracks st r (now (table .entry)) (now (scratch .entry)) (now (ranks .entry)) (now (marks .entry)) → Allowed st Close → Steps st at Close o (now (table .exit)) (now (scratch .exit)) (now (ranks .entry)) (now (marks .exit))) ⌝ }
 {
     let old = r.counts;
     let pending = r.pending;
-    match close_clause(table, old, scratch, pending, ranks) {
+    match close_marked(table, old, scratch, pending, ranks, marks) {
         Pushed::Done(counts) => Stepped::On(r.with_closed(counts)),
         Pushed::Full => Stepped::Stop(9),
     }
@@ -205,9 +211,10 @@ pub fn apply(
     table: &mut [u16],
     scratch: &mut [u16],
     ranks: &mut [u16],
+    marks: &mut [u16],
 ) -> Stepped
-    requires { ⌜ Ready r mv (now table) (now scratch) (now ranks) ⌝ }
-    ensures { λ o. ⌜ ((st : State) (at : ℕ) → Tracks st r (now (table .entry)) (now (scratch .entry)) (now (ranks .entry)) → Allowed st mv → Steps st at mv o (now (table .exit)) (now (scratch .exit)) (now (ranks .exit))) ⌝ }
+    requires { ⌜ Ready r mv (now table) (now scratch) (now ranks) (now marks) ⌝ }
+    ensures { λ o. ⌜ ((st : State) (at : ℕ) → Tracks st r (now (table .entry)) (now (scratch .entry)) (now (ranks .entry)) (now (marks .entry)) → Allowed st mv → Steps st at mv o (now (table .exit)) (now (scratch .exit)) (now (ranks .exit)) (now (marks .exit))) ⌝ }
 {
     match mv {
         Move::Fault(k) => Stepped::Stop(k),
@@ -217,9 +224,9 @@ pub fn apply(
         Move::Entry(entry) => Stepped::On(add_entry(r, entry, table, ranks)),
         Move::Literal(literal) => {
             let old = r.pending;
-            let pending = put_literal(scratch, old, literal);
+            let pending = put_sorted(scratch, old, literal);
             Stepped::On(r.with_pending(pending))
         }
-        Move::Close => close(r, table, scratch, ranks),
+        Move::Close => close(r, table, scratch, ranks, marks),
     }
 }

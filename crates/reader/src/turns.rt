@@ -73,10 +73,16 @@ pub fn conclude(r: Reader, n: usize) -> Outcome
     Outcome::Refused(4, n)
 }
 
-// Reads a text into a table that is all zero, with a scratch and the ranks of no prefix.
-pub fn fill(text: &[u8], table: &mut [u16], scratch: &mut [u16], ranks: &mut [u16]) -> Outcome
+// Reads a text into a table that is all zero, with a scratch, the ranks of no prefix and the marks of no clause.
+pub fn fill(
+    text: &[u8],
+    table: &mut [u16],
+    scratch: &mut [u16],
+    ranks: &mut [u16],
+    marks: &mut [u16],
+) -> Outcome
     requires { ⌜ length (now text) ≤ maxText ⌝ }
-    requires { ⌜ Tracks start fresh (now table) (now scratch) (now ranks) ⌝ }
+    requires { ⌜ Tracks start fresh (now table) (now scratch) (now ranks) (now marks) ⌝ }
     ensures { λ o. ⌜ Filled (now (text .entry)) o (now (table .exit)) ⌝ }
 {
     let mut at = skip_preamble(text);
@@ -89,7 +95,7 @@ pub fn fill(text: &[u8], table: &mut [u16], scratch: &mut [u16], ranks: &mut [u1
             Next::Run(a, e) => {
                 let w = read_word(&text[a..e]);
                 let mv = judge(r, ranks, w);
-                match apply(r, mv, table, scratch, ranks) {
+                match apply(r, mv, table, scratch, ranks, marks) {
                     Stepped::Stop(k) => {
                         return Outcome::Refused(k, a);
                     }

@@ -1,27 +1,11 @@
 // Reads stored texts, and writes for each: the answer's number, the offset, the three counts, some numbers of the first table,
 // and how many numbers of each table are not zero. Both tables are dirty before each reading.
 use reader::Reading;
+use shows::used;
+use shows::word;
 
 mod cases;
 mod texts;
-
-// How many numbers are not zero.
-fn used(t: &[u16]) -> usize {
-    let mut n: usize = 0;
-    let mut i = 0;
-    while i < t.len() {
-        if t[i] != 0 {
-            n += 1;
-        }
-        i += 1;
-    }
-    n
-}
-
-fn word(n: u64) {
-    io::print_decimal(1, n);
-    io::write_all(1, b" ");
-}
 
 fn small(n: u16) {
     word(n as u64);

@@ -2,45 +2,9 @@
 ghost use Prim.Native.Nat.{_≤_};
 ghost use lib.ListN.{length};
 use crate::show;
-
-// Writes a byte where there is room, and gives the place after it.
-fn put(out: &mut [u8], at: usize, b: u8) -> usize
-    ensures { λ r. do ⌜ r ≤ (← ⟦out.len()⟧ .entry) ⌝ }
-{
-    if at < out.len() {
-        out[at] = b;
-        return at + 1;
-    }
-    out.len()
-}
-
-// Writes a text.
-fn put_text(out: &mut [u8], at: usize, text: &[u8]) -> usize
-    requires { ⌜ at ≤ length (now out) ⌝ }
-    ensures { λ r. do ⌜ r ≤ (← ⟦out.len()⟧ .entry) ⌝ }
-{
-    let mut e = at;
-    let mut i = 0;
-    while i < text.len() {
-        e = put(out, e, text[i]);
-        i += 1;
-    }
-    e
-}
-
-// Writes a text n times.
-fn put_times(out: &mut [u8], at: usize, text: &[u8], n: usize) -> usize
-    requires { ⌜ at ≤ length (now out) ⌝ }
-    ensures { λ r. do ⌜ r ≤ (← ⟦out.len()⟧ .entry) ⌝ }
-{
-    let mut e = at;
-    let mut i = 0;
-    while i < n {
-        e = put_text(out, e, text);
-        i += 1;
-    }
-    e
-}
+use shows::put;
+use shows::put_text;
+use shows::put_times;
 
 // Writes a minus, or nothing.
 fn put_sign(out: &mut [u8], at: usize, minus: bool) -> usize

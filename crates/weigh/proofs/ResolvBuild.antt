@@ -12,7 +12,7 @@ use Rattle.meaning.specs.Lists.{anyOf, keepIf, same}
 use Rattle.meaning.specs.Tidy.{Tidied, dropped, kept, tidy, addTidied, buildOn}
 use Rattle.meaning.specs.WellFormed.{literals}
 use Rattle.weigh.specs.Resolving.{becomes}
-use Rattle.meaning.proofs.Basics.{by-cases, or-false}
+use Rattle.meaning.proofs.Basics.{or-false}
 use Rattle.meaning.proofs.Lists.{any-append, any-keep, same-path}
 use Rattle.meaning.proofs.Weight.{size}
 use Rattle.table.proofs.PadLaws.{literals-snoc}
@@ -54,7 +54,8 @@ any-add c cs (kept d) = go (anyOf (same d) cs) refl
     go true i = there (same c d) refl i
     go false i = any-append (same c) cs (d ∷ []) ∙ (unfold anyOf in ap (λ (b : Bool). anyOf (same c) cs || b) (or-false (same c d)))
 
-pub any-built : (p c : List ℕ) (cs raws : List (List ℕ)) → anyOf (same c) (buildOn p cs raws) ≡ (anyOf (same c) cs || anyOf (λ raw. becomes c (tidy p raw)) raws)
+pub any-built : (p c : List ℕ) (cs raws : List (List ℕ))
+    → anyOf (same c) (buildOn p cs raws) ≡ (anyOf (same c) cs || anyOf (λ raw. becomes c (tidy p raw)) raws)
 unfolding buildOn anyOf
 any-built p c cs [] = sym (or-false (anyOf (same c) cs))
 any-built p c cs (r ∷ raws) =

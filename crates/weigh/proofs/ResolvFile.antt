@@ -2,27 +2,31 @@
 -- Assumes nothing.
 use Prim.Native.Nat.{ℕ, zero, suc, _+_, _*_, _/_, _%_, _≤_, _<_}
 use mathlib.Core.Path.{_≡_, refl, sym, ap, _∙_}
-use mathlib.Core.Bool.{true}
+use mathlib.Core.Bool.{true, _&&_, not}
 use mathlib.Core.List.{List, [], _∷_, map}
 use lib.ListN.{length, getD}
-use lib.Dec.{ltb}
-use borrow.Author.Tests.{ltb-true}
+use lib.Dec.{ltb, leb}
+use borrow.Author.Tests.{ltb-true, le-leb}
 use native.Mathlib.Omega.{arith}
-use native.Mathlib.Nat.{not-suc-le-zero, le-of-suc-le-suc, mod-lt, div-lt-iff-lt-mul}
+use native.Mathlib.Nat.{not-suc-le-zero, le-of-suc-le-suc, mod-lt, mul-le-mul, div-lt-iff-lt-mul}
 use Rattle.meaning.specs.Lists.{allOf, has}
-use Rattle.meaning.specs.Formula.{Formula, plain, negated}
+use Rattle.meaning.specs.Formula.{Formula, var, mentions, plain, negated}
+use Rattle.meaning.specs.WellFormed.{goodPrefix, bound, wellFormed, fits, maxVariables}
 use Rattle.rules.specs.Eliminate.{withLit}
 use Rattle.table.specs.Table.{Held}
+use Rattle.table.specs.Pending.{inRange}
 use Rattle.table.specs.declared.Counts.{Counts}
 use Rattle.index.specs.Index.{clausesWith, Indexes, Indexed}
 use Rattle.index.specs.Study.{Studied, Study}
 use Rattle.weigh.specs.Resolving.{Filed, File, rawResolvents, pairs, positiveAt, negativeAt}
 use Rattle.meaning.proofs.Weight.{keep-length}
-use Rattle.meaning.proofs.Parts.{room-of}
+use Rattle.meaning.proofs.Basics.{and-l, and-r, and-i}
+use Rattle.meaning.proofs.Lists.{all-all, all-le, all-keep-le}
+use Rattle.meaning.proofs.Prefix.{bound-numbers}
+use Rattle.meaning.proofs.Parts.{room-of, good-of, bound-all}
 use Rattle.table.proofs.HoldLaws.{held}
 use Rattle.table.proofs.RankLaws.{length-ranks}
-use Rattle.table.proofs.LoopLaws.{all-getD}
-use Rattle.index.proofs.ClauseLaws.{with-clauses, with-length, with-below}
+use Rattle.index.proofs.ClauseLaws.{with-clauses, with-length, with-at}
 use Rattle.index.proofs.ReadLaws.{indexed, studied-indexes}
 use Rattle.weigh.proofs.ResolvPairs.{pairs-length, some-negative}
 
@@ -59,7 +63,7 @@ module _ (cs : List (List ℕ)) (l : ℕ) (s : List ℕ) (is : s ≡ clausesWith
 
     pub listed-below : getD s i 0 < length cs
     listed-below =
-        ltb-true (getD s i 0) (length cs) (all-getD (λ k. ltb k (length cs)) 0 s i (ap (allOf (λ k. ltb k (length cs))) is ∙ with-below cs l) listed-there)
+        rw is (with-at cs l i (rw is at listed-there))
 
     pub listed-clause : getD cs (getD s i 0) [] ≡ getD (withLit l cs) i []
     unfolding withLit
@@ -94,3 +98,56 @@ module _ (φ : Formula) (a k n : ℕ) (is : n ≡ length (withLit (2 * a + 1) (�
   pub negative-is : getD (withLit (2 * a + 1) (φ .clauses)) (k % n) [] ≡ negativeAt φ a k
   unfolding negativeAt plain negated
   negative-is = rw is
+
+-- The literals of a pair are in range ------------------------------------------------------------------------------------
+good-above : (p : List ℕ) → goodPrefix p ≡ true → allOf (λ q. leb 1 (var q)) p ≡ true
+unfolding goodPrefix allOf
+good-above [] g = refl
+good-above (q ∷ p) g =
+    and-i (leb 1 (var q)) (allOf (λ x. leb 1 (var x)) p)
+    (le-leb 1 (var q) (ltb-true 0 (var q) (and-l (ltb 0 (var q)) (not (mentions p (var q)) && goodPrefix p) g)))
+    (good-above p (search and-r))
+
+clauses-range : (φ : Formula) → wellFormed φ ≡ true → fits φ ≡ true → allOf (allOf inRange) (φ .clauses) ≡ true
+unfolding inRange
+clauses-range φ w f =
+    all-le (bound (φ .prefix)) (allOf inRange) (φ .clauses)
+    (λ c b. bound-numbers (λ v. leb 1 v && leb v maxVariables) (φ .prefix) c
+    (all-all (λ q. leb 1 (var q)) (λ q. leb (var q) maxVariables) (φ .prefix) (good-above (φ .prefix) (good-of φ w)) (room-of φ f .numbers)) b)
+    (bound-all φ w)
+
+-- so too behind the last clause, where the empty one is read
+range-at : (cs : List (List ℕ)) (i : ℕ) → allOf (allOf inRange) cs ≡ true → allOf inRange (getD cs i []) ≡ true
+unfolding allOf
+range-at [] i h = refl
+range-at (c ∷ cs) zero h = and-l (allOf inRange c) (allOf (allOf inRange) cs) h
+range-at (c ∷ cs) (suc i) h = range-at cs i (and-r (allOf inRange c) (allOf (allOf inRange) cs) h)
+
+module _ {φ : Formula} {t : List ℕ} {c : Counts} {index : List ℕ} (f : Filed φ t c index) where
+  side-range : (l i : ℕ) → allOf inRange (getD (withLit l (φ .clauses)) i []) ≡ true
+  unfolding withLit
+  side-range l i =
+      range-at (withLit l (φ .clauses)) i (all-keep-le (allOf inRange) (has l) (φ .clauses) (clauses-range φ (f .indexes .well) (f .holds .fitting)))
+
+  pub positive-range : (a k : ℕ) (x : List ℕ) → x ≡ positiveAt φ a k → allOf inRange x ≡ true
+  unfolding positiveAt
+  positive-range a k x e = rw e (side-range (plain a) _)
+
+  pub negative-range : (a k : ℕ) (y : List ℕ) → y ≡ negativeAt φ a k → allOf inRange y ≡ true
+  unfolding negativeAt
+  negative-range a k y e = rw e (side-range (negated a) _)
+
+-- How many pairs there are -----------------------------------------------------------------------------------------------
+pub pairs-few : {φ : Formula} {index : List ℕ} → Indexes φ index → (a : ℕ) → pairs φ a ≤ 4190209
+unfolding pairs rawResolvents
+pairs-few {φ} {index} h a =
+    omega (
+      arith,
+      pairs-length a (withLit (plain a) (φ .clauses)) (withLit (negated a) (φ .clauses)),
+      mul-le-mul (listed-few h (plain a)) (listed-few h (negated a)),
+    )
+
+pub pairs-are : (φ : Formula) (a m n : ℕ) → m ≡ length (withLit (2 * a) (φ .clauses)) → n ≡ length (withLit (2 * a + 1) (φ .clauses))
+    → m * n ≡ pairs φ a
+unfolding pairs rawResolvents plain negated
+pairs-are φ a m n e d = rw (e, d) (sym (pairs-length a (withLit (plain a) (φ .clauses)) (withLit (negated a) (φ .clauses))))

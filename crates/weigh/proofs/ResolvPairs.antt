@@ -1,6 +1,6 @@
 -- The resolvents are those of the pairs, by their numbers.
 -- Assumes nothing.
-use Prim.Native.Nat.{ℕ, zero, suc, _+_, _-_, _*_, _/_, _%_, _≤_, _<_}
+use Prim.Native.Nat.{ℕ, zero, suc, _+_, _-_, _*_, _/_, _%_, _<_}
 use mathlib.Core.Path.{_≡_, refl, sym, ap, _∙_}
 use mathlib.Core.List.{List, [], _∷_, _++_}
 use lib.ListN.{length, getD, length-append, List·getD-append}
@@ -9,8 +9,6 @@ use borrow.Author.Tests.{ltb-true, ltb-false}
 use native.Mathlib.Omega.{arith}
 use native.Mathlib.Nat.{zero-mul, suc-mul, mod-eq-of-lt, div-eq-of-lt, mul-zero, add-div-left, add-mod-left}
 use native.Mathlib.Numerals.{add-one}
-use Rattle.meaning.specs.Lists.{without}
-use Rattle.meaning.specs.Formula.{plain, negated}
 use Rattle.rules.specs.Eliminate.{resolventsOf, resolvents}
 use Rattle.weigh.specs.Resolving.{resolvent}
 use Rattle.meaning.proofs.Basics.{by-cases}
@@ -54,7 +52,8 @@ pair-at a [] ys k h = absurd (omega arith)
 pair-at a (x ∷ xs) ys k h =
     let n = length ys in
     by-cases (ltb k n)
-    (λ e. let l = ltb-true k n e in List·getD-append (resolventsOf a x ys) (resolvents a xs ys) [] k (omega (arith, one-length a x ys)) ∙ one-at a x ys k l ∙ rw (div-eq-of-lt l, mod-eq-of-lt l))
+    (λ e. let l = ltb-true k n e in List·getD-append (resolventsOf a x ys) (resolvents a xs ys) [] k (omega (arith, one-length a x ys))
+    ∙ one-at a x ys k l ∙ rw (div-eq-of-lt l, mod-eq-of-lt l))
     (λ e. let d : k ≡ n + (k - n) = omega (arith, ltb-false k n e) in
     rw d
     (pair-later a x xs ys n (k - n) refl (some-negative a (x ∷ xs) ys k h)

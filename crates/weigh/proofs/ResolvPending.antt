@@ -1,15 +1,14 @@
 -- A raw clause in the scratch: all literals of a clause but one, and tidying in place.
 -- Assumes nothing.
 use Prim.Native.Nat.{ℕ, _+_, _*_, _≤_, _<_}
-use mathlib.Core.Path.{_≡_, refl, sym, ap, subst, _∙_}
+use mathlib.Core.Path.{_≡_, refl, sym, ap, _∙_}
 use mathlib.Core.Bool.{Bool, true, false, _||_, not, cond}
 use mathlib.Core.List.{List, [], _∷_, _++_, append-assoc, append-nil}
 use lib.ListN.{length, getD, take}
 use lib.Seq.{take-suc, take-all}
 use lib.Dec.{eqb}
 use native.Mathlib.Numerals.{add-one}
-use native.Mathlib.Omega.{arith}
-use Rattle.meaning.specs.Lists.{allOf, anyOf, keepIf, has, same, without}
+use Rattle.meaning.specs.Lists.{allOf, keepIf, has, same, without}
 use Rattle.meaning.specs.Formula.{plain, negated}
 use Rattle.meaning.specs.Tidy.{Tidied, ascending, bothPhases, stays, reduce, dropped, kept, tidySorted, tidy}
 use Rattle.meaning.specs.WellFormed.{goodPrefix}
@@ -29,7 +28,8 @@ unfolding without keepIf
 without-append n [] d = refl
 without-append n (l ∷ c) d = go (not (eqb n l)) (without-append n c d)
   where
-    go : (b : Bool) → without n (c ++ d) ≡ without n c ++ without n d → cond b (l ∷ without n (c ++ d)) (without n (c ++ d)) ≡ cond b (l ∷ without n c) (without n c) ++ without n d
+    go : (b : Bool) → without n (c ++ d) ≡ without n c ++ without n d
+        → cond b (l ∷ without n (c ++ d)) (without n (c ++ d)) ≡ cond b (l ∷ without n c) (without n c) ++ without n d
     go true ih = ap (λ (r : List ℕ). l ∷ r) ih
     go false ih = ih
 
@@ -48,9 +48,15 @@ module _ (raw s : List ℕ) (p : Pending) (out : ℕ) where
     others-start h = rw (append-nil raw) h
 
     module _ (i : ℕ) where
-      pub others-turn : i < length clause → Pends ((raw ++ without out (take i clause)) ++ without out (getD clause i 0 ∷ [])) s p → Pends (raw ++ without out (take (i + 1) clause)) s p
+      pub others-turn : i < length clause → Pends ((raw ++ without out (take i clause)) ++ without out (getD clause i 0 ∷ [])) s p
+          → Pends (raw ++ without out (take (i + 1) clause)) s p
       others-turn h k =
-          rw (add-one i, take-suc clause i 0 h, without-append out (take i clause) (getD clause i 0 ∷ []), ← append-assoc raw (without out (take i clause)) (without out (getD clause i 0 ∷ []))) k
+          rw (
+            add-one i,
+            take-suc clause i 0 h,
+            without-append out (take i clause) (getD clause i 0 ∷ []),
+            ← append-assoc raw (without out (take i clause)) (without out (getD clause i 0 ∷ [])),
+          ) k
 
       pub others-end : length clause ≤ i → Pends (raw ++ without out (take i clause)) s p → Pends (raw ++ without out clause) s p
       others-end h k = rw (take-all i clause h) at k
@@ -80,7 +86,8 @@ module _ (s : List ℕ) (p : Pending) (x : Tidied) (is : tidiedIn s p ≡ x) (c 
   becomes-same e r q = rw (← is, e) q
 
 -- the two literals of a variable are left out
-pub pair-pends : (x y s : List ℕ) (p : Pending) (a l : ℕ) → l ≡ 2 * a → Pends (([] ++ without l x) ++ without (l + 1) y) s p → Pends (resolvent a x y) s p
+pub pair-pends : (x y s : List ℕ) (p : Pending) (a l : ℕ) → l ≡ 2 * a → Pends (([] ++ without l x) ++ without (l + 1) y) s p
+    → Pends (resolvent a x y) s p
 unfolding resolvent plain negated
 pair-pends x y s p a l e h = rw e at h
 
@@ -94,7 +101,8 @@ unfolding has reduce resolvent
 of-either q x y a l h =
     let c = ascending (without (plain a) x ++ without (negated a) y) in
     or-elim (has l (without (plain a) x)) (has l (without (negated a) y))
-    (sym (any-ascending (λ k. eqb l k) (without (plain a) x ++ without (negated a) y) ∙ any-append (λ k. eqb l k) (without (plain a) x) (without (negated a) y)) ∙ any-keep-le (λ k. eqb l k) (stays q c) c h)
+    (sym (any-ascending (λ k. eqb l k) (without (plain a) x ++ without (negated a) y)
+    ∙ any-append (λ k. eqb l k) (without (plain a) x) (without (negated a) y)) ∙ any-keep-le (λ k. eqb l k) (stays q c) c h)
     (λ e. or-il (has l x) (has l y) (left-of l (plain a) x e)) (λ e. or-ir (has l x) (has l y) (left-of l (negated a) y e))
 
 pub not-covered : (q x y c : List ℕ) (a : ℕ) → covers x y c ≡ false → becomes c (tidy q (resolvent a x y)) ≡ false
@@ -105,4 +113,6 @@ not-covered q x y c a n = go (bothPhases (ascending (resolvent a x y)))
     go true = refl
     go false =
         false-of (same c (reduce q (ascending (resolvent a x y))))
-        (λ e. clash {b = allOf (λ l. has l x || has l y) c} (rw (same-path c (reduce q (ascending (resolvent a x y))) e) (all-of-has (λ l. has l x || has l y) (reduce q (ascending (resolvent a x y))) (of-either q x y a))) n)
+        (λ e. clash {b = allOf (λ l. has l x || has l y) c}
+        (rw (same-path c (reduce q (ascending (resolvent a x y))) e)
+        (all-of-has (λ l. has l x || has l y) (reduce q (ascending (resolvent a x y))) (of-either q x y a))) n)

@@ -1,15 +1,15 @@
 -- A variable that a clause does not have may leave the prefix: the clause is tidied as before.
 -- Assumes nothing.
 use Prim.Native.Nat.{ℕ, _+_, _*_}
-use mathlib.Core.Path.{_≡_, refl, sym, ap, ap₂, fun-ext, _∙_}
-use mathlib.Core.Bool.{Bool, true, false, _&&_, _||_, not, cond}
+use mathlib.Core.Path.{_≡_, refl, sym, ap, fun-ext, _∙_}
+use mathlib.Core.Bool.{Bool, true, false, _&&_, not, cond}
 use mathlib.Core.List.{List, [], _∷_}
 use lib.Dec.{eqb}
 use Rattle.meaning.specs.Lists.{allOf, anyOf, keepIf, has}
 use Rattle.meaning.specs.Formula.{var, odd, isVar, mentions, dropVar, universal, rightOf, anyExist}
 use Rattle.meaning.specs.Tidy.{ascending, bothPhases, stays, reduce, dropped, kept, tidySorted, tidy}
 use Rattle.meaning.specs.WellFormed.{reduced}
-use Rattle.meaning.proofs.Basics.{by-cases, clash, and-l, and-r, eqb-true, eqb-false, eqb-ne, eqb-sym, not-true}
+use Rattle.meaning.proofs.Basics.{clash, and-l, and-r, eqb-true, eqb-false, eqb-ne, eqb-sym, not-true}
 use Rattle.meaning.proofs.Lists.{any-keep, any-none, any-ascending, all-agree}
 use Rattle.meaning.proofs.Prefix.{eqb-negated}
 

@@ -8,15 +8,16 @@ use lib.ListN.{length, getD, take, drop, take-append-drop}
 use lib.Seq.{take-length}
 use native.Mathlib.Omega.{arith}
 use Rattle.meaning.specs.Lists.{allOf, anyOf, keepIf, same}
-use Rattle.meaning.specs.Formula.{Formula, isVar, mentions, dropVar, plain, negated}
+use Rattle.meaning.specs.Formula.{Formula, isVar, mentions, plain, negated}
 use Rattle.meaning.specs.Tidy.{ascending, bothPhases, stays, reduce, dropped, kept, tidySorted, tidy, addTidied, buildOn, build, tidied}
-use Rattle.meaning.specs.WellFormed.{ascends, bound, reduced, tidyClause, distinct, goodPrefix, wellFormed, weight, literals}
+use Rattle.meaning.specs.WellFormed.{bound, tidyClause, distinct, wellFormed, weight}
 use Rattle.rules.specs.Eliminate.{withLit, withoutVar, resolveRaw}
 use Rattle.rules.specs.Entry.{resolve}
 use Rattle.rules.specs.Step.{rawOf, resultOf}
-use Rattle.weigh.specs.Resolving.{restOf, stayOf, rawResolvents, pairs, resolvedTo, resolvent, positiveAt, negativeAt, resolventAt, becomes, cameBefore}
+use Rattle.weigh.specs.Resolving.{restOf, stayOf, rawResolvents, pairs, resolvedTo, resolvent}
+use Rattle.weigh.specs.Resolving.{positiveAt, negativeAt, resolventAt, becomes, cameBefore}
 use Rattle.meaning.proofs.Basics.{clash, false-of, and-l, and-r, and-i, not-true}
-use Rattle.meaning.proofs.Lists.{all-append, all-all, all-le, all-kept, all-keep-le, any-keep-le, any-agree, any-keep, any-ascending, same-path, all-has}
+use Rattle.meaning.proofs.Lists.{all-append, all-all, all-le, all-kept, all-keep-le, any-keep-le, any-ascending}
 use Rattle.meaning.proofs.Parts.{good-of, tidy-of, distinct-of, ascends-of, reduced-of}
 use Rattle.meaning.proofs.Again.{build-same}
 use Rattle.meaning.proofs.Clauses.{drop-not}
@@ -37,7 +38,8 @@ distinct-keep t (c ∷ cs) h = go (t c) (distinct-keep t cs (and-r (not (anyOf (
     go : (b : Bool) → distinct (keepIf t cs) ≡ true → distinct (cond b (c ∷ keepIf t cs) (keepIf t cs)) ≡ true
     go true ih =
         and-i (not (anyOf (same c) (keepIf t cs))) (distinct (keepIf t cs))
-        (ap not (false-of (anyOf (same c) (keepIf t cs)) (λ k. clash (any-keep-le (same c) t cs k) (not-true (anyOf (same c) cs) (and-l (not (anyOf (same c) cs)) (distinct cs) h))))) ih
+        (ap not (false-of (anyOf (same c) (keepIf t cs))
+        (λ k. clash (any-keep-le (same c) t cs k) (not-true (anyOf (same c) cs) (and-l (not (anyOf (same c) cs)) (distinct cs) h))))) ih
     go false ih = ih
 
 -- A resolvent does not have the variable -------------------------------------------------------------------------------
@@ -83,14 +85,16 @@ module _ (φ : Formula) (w : wellFormed φ ≡ true) (a : ℕ) where
   base-built : build (restOf φ a) (stayOf φ a) ≡ stayOf φ a
   base-built =
       build-same (record { prefix = restOf φ a; clauses = stayOf φ a })
-      (unfold wellFormed in rw (good-drop a (φ .prefix) (good-of φ w), base-tidy) (unfold withoutVar in distinct-keep (λ c. not (mentions c a)) (φ .clauses) (distinct-of φ w)))
+      (unfold wellFormed in rw (good-drop a (φ .prefix) (good-of φ w), base-tidy)
+      (unfold withoutVar in distinct-keep (λ c. not (mentions c a)) (φ .clauses) (distinct-of φ w)))
 
   -- the whole result is there after all pairs
   pub result-is : resultOf φ resolve a 0 ≡ resolvedTo φ a (pairs φ a)
   unfolding resultOf rawOf resolveRaw tidied resolvedTo pairs rawResolvents
   result-is = λ i. record { prefix = restOf φ a; clauses = all i }
     where
-      all : build (restOf φ a) (stayOf φ a ++ rawResolvents φ a) ≡ buildOn (restOf φ a) (stayOf φ a) (take (length (rawResolvents φ a)) (rawResolvents φ a))
+      all : build (restOf φ a) (stayOf φ a ++ rawResolvents φ a)
+          ≡ buildOn (restOf φ a) (stayOf φ a) (take (length (rawResolvents φ a)) (rawResolvents φ a))
       all =
           rw (take-length (rawResolvents φ a))
           (unfold build in build-append (restOf φ a) [] (stayOf φ a) (rawResolvents φ a)
@@ -134,7 +138,8 @@ module _ (φ : Formula) (w : wellFormed φ ≡ true) (a : ℕ) where
   unfolding withoutVar
   base-same c out = same-kept (λ d. not (mentions d a)) c (φ .clauses) (ap not out)
 
-  there-is : (k : ℕ) (c : List ℕ) → mentions c a ≡ false → anyOf (same c) (resolvedTo φ a k .clauses) ≡ (anyOf (same c) (φ .clauses) || cameBefore φ a k c)
+  there-is : (k : ℕ) (c : List ℕ) → mentions c a ≡ false
+      → anyOf (same c) (resolvedTo φ a k .clauses) ≡ (anyOf (same c) (φ .clauses) || cameBefore φ a k c)
   unfolding resolvedTo cameBefore
   there-is k c out =
       any-built (restOf φ a) c (stayOf φ a) (take k (rawResolvents φ a))
@@ -150,9 +155,15 @@ module _ (φ : Formula) (w : wellFormed φ ≡ true) (a : ℕ) where
   -- the later resolvents only add
   pub resolved-grows : (k : ℕ) → weight (resolvedTo φ a k) ≤ weight (resultOf φ resolve a 0)
   unfolding weight resolvedTo
-  resolved-grows k = rw (result-is, more) (omega (arith, build-grows (restOf φ a) (buildOn (restOf φ a) (stayOf φ a) (take k (rawResolvents φ a))) (drop k (rawResolvents φ a))))
+  resolved-grows k =
+      rw (result-is, more) (omega (
+        arith,
+        build-grows (restOf φ a) (buildOn (restOf φ a) (stayOf φ a) (take k (rawResolvents φ a)))
+            (drop k (rawResolvents φ a)),
+      ))
     where
-      more : buildOn (restOf φ a) (stayOf φ a) (take (pairs φ a) (rawResolvents φ a)) ≡ buildOn (restOf φ a) (buildOn (restOf φ a) (stayOf φ a) (take k (rawResolvents φ a))) (drop k (rawResolvents φ a))
+      more : buildOn (restOf φ a) (stayOf φ a) (take (pairs φ a) (rawResolvents φ a))
+          ≡ buildOn (restOf φ a) (buildOn (restOf φ a) (stayOf φ a) (take k (rawResolvents φ a))) (drop k (rawResolvents φ a))
       more =
           unfold pairs in
           ap (buildOn (restOf φ a) (stayOf φ a)) (take-length (rawResolvents φ a) ∙ sym (take-append-drop k (rawResolvents φ a)))

@@ -1,7 +1,7 @@
 -- The clauses with a literal: those with one of the two literals of a variable, and those without the variable, are all clauses.
 -- Assumes nothing.
-use Prim.Native.Nat.{ℕ, zero, suc, _+_, _≤_, _<_}
-use mathlib.Core.Path.{_≡_, refl, sym, ap, ap₂, _∙_}
+use Prim.Native.Nat.{ℕ, _+_, _≤_, _<_}
+use mathlib.Core.Path.{_≡_, refl, sym, _∙_}
 use mathlib.Core.Bool.{Bool, true, false, _&&_, _||_, not, cond}
 use mathlib.Core.List.{List, [], _∷_}
 use lib.Dec.{eqb, ltb}
@@ -11,13 +11,13 @@ use borrow.Author.Tests.{lt-ltb, le-ltb}
 use native.Mathlib.Numerals.{add-one}
 use native.Mathlib.Omega.{arith}
 use Rattle.meaning.specs.Lists.{allOf, anyOf, keepIf, has, same}
-use Rattle.meaning.specs.Formula.{Formula, mentions, plain, negated, opposite, var}
+use Rattle.meaning.specs.Formula.{Formula, mentions, plain, negated}
 use Rattle.meaning.specs.WellFormed.{literals, wellFormed}
 use Rattle.rules.specs.Eliminate.{withLit, withoutVar}
 use Rattle.permits.specs.Places.{within, near, sideWithin}
 use Rattle.weigh.specs.Resolving.{stayOf, rarer, rarestOf, Filed}
 use Rattle.meaning.proofs.Basics.{clash, and-l, and-r, or-il, or-ir, or-elim, eqb-self}
-use Rattle.meaning.proofs.Lists.{all-keep, same-path}
+use Rattle.meaning.proofs.Lists.{all-keep}
 use Rattle.meaning.proofs.Literals.{opp-plain, var-of-plain}
 use Rattle.table.specs.declared.Counts.{Counts}
 use Rattle.table.proofs.HoldLaws.{room}
@@ -33,10 +33,13 @@ split : (f g h : List ℕ → Bool) (cs : List (List ℕ)) → allOf (λ c. not 
     → Split cs (keepIf (λ c. not (h c)) cs) (keepIf f cs) (keepIf g cs)
 unfolding allOf keepIf literals
 split f g h [] one is = record { clauses = refl; all-literals = refl }
-split f g h (c ∷ cs) one is = rw (is c) (go (f c) (g c) (and-l (not (f c && g c)) (allOf (λ d. not (f d && g d)) cs) one) (split f g h cs (and-r (not (f c && g c)) (allOf (λ d. not (f d && g d)) cs) one) is))
+split f g h (c ∷ cs) one is =
+    rw (is c) (go (f c) (g c) (and-l (not (f c && g c)) (allOf (λ d. not (f d && g d)) cs) one)
+    (split f g h cs (and-r (not (f c && g c)) (allOf (λ d. not (f d && g d)) cs) one) is))
   where
     go : (x y : Bool) → not (x && y) ≡ true → Split cs (keepIf (λ d. not (h d)) cs) (keepIf f cs) (keepIf g cs)
-        → Split (c ∷ cs) (cond (not (x || y)) (c ∷ keepIf (λ d. not (h d)) cs) (keepIf (λ d. not (h d)) cs)) (cond x (c ∷ keepIf f cs) (keepIf f cs)) (cond y (c ∷ keepIf g cs) (keepIf g cs))
+        → Split (c ∷ cs) (cond (not (x || y)) (c ∷ keepIf (λ d. not (h d)) cs) (keepIf (λ d. not (h d)) cs))
+        (cond x (c ∷ keepIf f cs) (keepIf f cs)) (cond y (c ∷ keepIf g cs) (keepIf g cs))
     go true true n ih = clash n refl
     go true false n ih = record { clauses = omega arith; all-literals = omega arith }
     go false true n ih = record { clauses = omega arith; all-literals = omega arith }
@@ -52,7 +55,8 @@ module _ (φ : Formula) (w : wellFormed φ ≡ true) (a : ℕ) where
   pub stay-clauses : length (φ .clauses) ≡ length (stayOf φ a) + (length (withLit (plain a) (φ .clauses)) + length (withLit (negated a) (φ .clauses)))
   stay-clauses = sides .clauses
 
-  pub stay-literals : literals (φ .clauses) ≡ literals (stayOf φ a) + (literals (withLit (plain a) (φ .clauses)) + literals (withLit (negated a) (φ .clauses)))
+  pub stay-literals : literals (φ .clauses)
+      ≡ literals (stayOf φ a) + (literals (withLit (plain a) (φ .clauses)) + literals (withLit (negated a) (φ .clauses)))
   stay-literals = sides .all-literals
 
 -- Tests on them --------------------------------------------------------------------------------------------------------
@@ -118,7 +122,8 @@ rarest-of cs l (k ∷ c) = go (ltb (length (withLit k cs)) (length (withLit l cs
     go false h =
         or-elim (eqb (rarestOf cs l c) l) (has (rarestOf cs l c) c) h
         (λ e. or-il (eqb (rarestOf cs l c) l) (eqb (rarestOf cs l c) k || has (rarestOf cs l c) c) e)
-        (λ e. or-ir (eqb (rarestOf cs l c) l) (eqb (rarestOf cs l c) k || has (rarestOf cs l c) c) (or-ir (eqb (rarestOf cs l c) k) (has (rarestOf cs l c) c) e))
+        (λ e. or-ir (eqb (rarestOf cs l c) l) (eqb (rarestOf cs l c) k || has (rarestOf cs l c) c)
+        (or-ir (eqb (rarestOf cs l c) k) (has (rarestOf cs l c) c) e))
 
 -- so the clause is among those with it exactly if it is one of all
 pub found-among : (cs : List (List ℕ)) (c : List ℕ) → (length c ≡ 0 → ⊥) → (x : ℕ) → x ≡ rarestOf cs (getD c 0 0) (drop 1 c) → (r : Bool)

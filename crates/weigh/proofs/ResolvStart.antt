@@ -1,13 +1,13 @@
 -- Where weighing begins and ends: the counts without the variable, and the step's weight from its result's.
 -- Assumes nothing.
-use Prim.Native.Nat.{ℕ, _+_, _-_, _*_, _≤_, _<_}
-use mathlib.Core.Path.{_≡_, refl, sym, ap, _∙_}
-use mathlib.Core.Bool.{Bool, true, false, _&&_, not, cond}
-use mathlib.Core.List.{List, [], _∷_, _++_}
-use lib.ListN.{length, take, length-append}
+use Prim.Native.Nat.{ℕ, _+_, _-_, _*_, _<_}
+use mathlib.Core.Path.{_≡_, sym, ap, _∙_}
+use mathlib.Core.Bool.{Bool, true, false, _&&_, not}
+use mathlib.Core.List.{List, _∷_}
+use lib.ListN.{length, length-append}
 use lib.Dec.{leb}
 use native.Mathlib.Omega.{arith}
-use Rattle.meaning.specs.Lists.{allOf, keepIf}
+use Rattle.meaning.specs.Lists.{allOf}
 use Rattle.meaning.specs.Formula.{Formula, var, isVar, mentions, dropVar, plain, negated}
 use Rattle.meaning.specs.Tidy.{buildOn}
 use Rattle.meaning.specs.WellFormed.{goodPrefix, wellFormed, fits, literals}
@@ -33,7 +33,8 @@ use Rattle.weigh.proofs.ResolvResult.{result-is}
 
 -- The condition, by its two sides ------------------------------------------------------------------------------------------
 module _ (φ : Formula) (a n : ℕ) (p : Bool) where
-  pub sides-second : (r : Bool) → p ≡ sideWithin φ (2 * a) n → p ≡ true → r ≡ sideWithin φ (2 * a + 1) n → r ≡ (sideWithin φ (plain a) n && sideWithin φ (negated a) n)
+  pub sides-second : (r : Bool) → p ≡ sideWithin φ (2 * a) n → p ≡ true → r ≡ sideWithin φ (2 * a + 1) n
+      → r ≡ (sideWithin φ (plain a) n && sideWithin φ (negated a) n)
   unfolding plain negated
   sides-second r e t q = and-second (sideWithin φ (2 * a) n) (sideWithin φ (2 * a + 1) n) p r e t q
 
@@ -48,7 +49,8 @@ drop-length p v g m =
     ap length (k .whole) ∙ length-append (k .left) (k .entry ∷ k .right)
     ∙ sym (ap (λ (q : List ℕ). length q + 1) (k .rest) ∙ ap (λ (n : ℕ). n + 1) (length-append (k .left) (k .right)) ∙ omega arith)
 
-pub some-variables : {φ : Formula} {t : List ℕ} {c : Counts} {index : List ℕ} → Filed φ t c index → (a : ℕ) → mentions (φ .prefix) a ≡ true → 0 < c .variables
+pub some-variables : {φ : Formula} {t : List ℕ} {c : Counts} {index : List ℕ} → Filed φ t c index → (a : ℕ) → mentions (φ .prefix) a ≡ true
+    → 0 < c .variables
 some-variables {φ} {t} {c} {index} f a m = omega (arith, drop-length (φ .prefix) a (good-of φ (f .indexes .well)) m, count-variables (f .holds))
 
 module _ {φ : Formula} {t : List ℕ} {c : Counts} {index : List ℕ} (f : Filed φ t c index) (a m n : ℕ) where
@@ -76,7 +78,11 @@ module _ {φ : Formula} {t : List ℕ} {c : Counts} {index : List ℕ} (f : File
       → leftCounts c m n ≡ countsOf (resolvedTo φ a 0) (c .second)
   unfolding countsOf resolvedTo buildOn
   left-counts a i e d =
-      let v : c .variables - 1 ≡ length (restOf φ a) = omega (arith, drop-length (φ .prefix) a (good-of φ (f .indexes .well)) i, count-variables (f .holds)) in
+      let v : c .variables - 1 ≡ length (restOf φ a) = omega (
+        arith,
+        drop-length (φ .prefix) a (good-of φ (f .indexes .well)) i,
+        count-variables (f .holds),
+      ) in
       let x : c .clauses - m ≡ length (stayOf φ a) = omega arith in
       let y : c .literals - n ≡ literals (stayOf φ a) = omega arith in
       λ j. record { variables = v j; clauses = x j; literals = y j; second = c .second }
@@ -86,7 +92,8 @@ pub rest-small : (φ : Formula) → fits φ ≡ true → (a k : ℕ) → allOf (
 unfolding resolvedTo dropVar
 rest-small φ h a k = all-keep-le (λ q. leb (var q) 1023) (λ q. not (isVar a q)) (φ .prefix) (room-of φ h .numbers)
 
-pub weighed-end : (φ : Formula) → wellFormed φ ≡ true → (a k below : ℕ) → k ≡ pairs φ a → (r : Weighed) → r ≡ weighed below (resolvedTo φ a k) → r ≡ weighed below (resultOf φ resolve a 0)
+pub weighed-end : (φ : Formula) → wellFormed φ ≡ true → (a k below : ℕ) → k ≡ pairs φ a → (r : Weighed) → r ≡ weighed below (resolvedTo φ a k)
+    → r ≡ weighed below (resultOf φ resolve a 0)
 weighed-end φ w a k below e r q = q ∙ ap (weighed below) (ap (resolvedTo φ a) e ∙ sym (result-is φ w a))
 
 pub permitted-there : (φ : Formula) (a : ℕ) (b : Bool) → b ≡ resolvePermitted φ a → b ≡ true → mentions (φ .prefix) a ≡ true

@@ -1,86 +1,31 @@
 -- The counts of the result, pair by pair, and what they say against a bound.
 -- Assumes nothing.
-use Prim.Native.Nat.{ℕ, zero, suc, _+_, _*_, _≤_, _<_}
-use mathlib.Core.Path.{_≡_, refl, sym, ap, _∙_}
-use mathlib.Core.Bool.{Bool, true, false, _&&_, _||_, not, cond}
-use mathlib.Core.List.{List, [], _∷_}
-use lib.ListN.{length, getD, take, drop, length-take}
+use Prim.Native.Nat.{ℕ, _+_, _≤_, _<_}
+use mathlib.Core.Path.{_≡_, sym, ap, _∙_}
+use mathlib.Core.Bool.{Bool, true, false, cond}
+use mathlib.Core.List.{List, []}
+use lib.ListN.{length, getD, take, drop}
 use lib.Seq.{getD-take, length-take-le}
-use lib.Dec.{ltb, leb}
-use borrow.Author.Tests.{lt-ltb, le-ltb, le-leb, lt-leb, ltb-true}
+use lib.Dec.{leb}
+use borrow.Author.Tests.{lt-ltb, le-ltb}
 use native.Mathlib.Omega.{arith}
-use native.Mathlib.Nat.{mul-le-mul}
-use Rattle.meaning.specs.Lists.{allOf, anyOf, has, same}
-use Rattle.meaning.specs.Formula.{Formula, var, mentions, plain, negated}
-use Rattle.meaning.specs.Tidy.{Tidied, dropped, kept, tidy, addTidied}
-use Rattle.meaning.specs.WellFormed.{goodPrefix, bound, wellFormed, literals, weight, fits, maxVariables}
-use Rattle.rules.specs.Eliminate.{withLit}
+use Rattle.meaning.specs.Lists.{allOf, anyOf, same}
+use Rattle.meaning.specs.Formula.{Formula, var, mentions}
+use Rattle.meaning.specs.Tidy.{dropped, kept, tidy, addTidied}
+use Rattle.meaning.specs.WellFormed.{wellFormed, literals, weight, fits}
 use Rattle.rules.specs.Entry.{resolve}
 use Rattle.rules.specs.Step.{resultOf}
 use Rattle.table.specs.Table.{countsOf, clauseMore}
-use Rattle.table.specs.Pending.{inRange}
 use Rattle.table.specs.declared.Counts.{Counts}
 use Rattle.table.specs.declared.Pending.{Pending}
-use Rattle.index.specs.Index.{Indexes}
 use Rattle.weigh.specs.Weights.{weighed}
-use Rattle.weigh.specs.declared.Weighed.{Weighed}
 use Rattle.weigh.specs.declared.Weighed.the-variants.{Over, Fitting, Wide}
-use Rattle.weigh.specs.Resolving.{restOf, rawResolvents, pairs, positiveAt, negativeAt, resolventAt, resolvedTo, becomes, cameBefore, tidiedIn, Filed, Bounded}
-use Rattle.meaning.proofs.Basics.{false-of, and-l, and-r, and-i}
-use Rattle.meaning.proofs.Lists.{all-all, all-le, all-keep-le}
-use Rattle.meaning.proofs.Prefix.{bound-numbers}
-use Rattle.meaning.proofs.Parts.{room-of, of-room, good-of, bound-all}
+use Rattle.weigh.specs.Resolving.{restOf, rawResolvents, pairs, resolventAt, resolvedTo, becomes, cameBefore, tidiedIn, Bounded}
+use Rattle.meaning.proofs.Basics.{false-of}
+use Rattle.meaning.proofs.Parts.{room-of, of-room}
 use Rattle.table.proofs.LoopLaws.{any-found, any-turn, any-end}
 use Rattle.weigh.proofs.ResolvBuild.{add-none, add-clauses, add-literals}
-use Rattle.weigh.proofs.ResolvPairs.{pairs-length}
-use Rattle.weigh.proofs.ResolvResult.{result-is, resolved-next, resolved-grows, became-at, pair-free}
-use Rattle.weigh.proofs.ResolvFile.{listed-few}
-
--- The literals of a pair are in range ------------------------------------------------------------------------------------
-good-above : (p : List ℕ) → goodPrefix p ≡ true → allOf (λ q. leb 1 (var q)) p ≡ true
-unfolding goodPrefix allOf
-good-above [] g = refl
-good-above (q ∷ p) g =
-    and-i (leb 1 (var q)) (allOf (λ x. leb 1 (var x)) p) (le-leb 1 (var q) (ltb-true 0 (var q) (and-l (ltb 0 (var q)) (not (mentions p (var q)) && goodPrefix p) g)))
-    (good-above p (search and-r))
-
-clauses-range : (φ : Formula) → wellFormed φ ≡ true → fits φ ≡ true → allOf (allOf inRange) (φ .clauses) ≡ true
-unfolding inRange
-clauses-range φ w f =
-    all-le (bound (φ .prefix)) (allOf inRange) (φ .clauses)
-    (λ c b. bound-numbers (λ v. leb 1 v && leb v maxVariables) (φ .prefix) c (all-all (λ q. leb 1 (var q)) (λ q. leb (var q) maxVariables) (φ .prefix) (good-above (φ .prefix) (good-of φ w)) (room-of φ f .numbers)) b)
-    (bound-all φ w)
-
--- so too behind the last clause, where the empty one is read
-range-at : (cs : List (List ℕ)) (i : ℕ) → allOf (allOf inRange) cs ≡ true → allOf inRange (getD cs i []) ≡ true
-unfolding allOf
-range-at [] i h = refl
-range-at (c ∷ cs) zero h = and-l (allOf inRange c) (allOf (allOf inRange) cs) h
-range-at (c ∷ cs) (suc i) h = range-at cs i (and-r (allOf inRange c) (allOf (allOf inRange) cs) h)
-
-module _ {φ : Formula} {t : List ℕ} {c : Counts} {index : List ℕ} (f : Filed φ t c index) where
-  side-range : (l i : ℕ) → allOf inRange (getD (withLit l (φ .clauses)) i []) ≡ true
-  unfolding withLit
-  side-range l i =
-      range-at (withLit l (φ .clauses)) i (all-keep-le (allOf inRange) (has l) (φ .clauses) (clauses-range φ (f .indexes .well) (f .holds .fitting)))
-
-  pub positive-range : (a k : ℕ) (x : List ℕ) → x ≡ positiveAt φ a k → allOf inRange x ≡ true
-  unfolding positiveAt
-  positive-range a k x e = rw e (side-range (plain a) _)
-
-  pub negative-range : (a k : ℕ) (y : List ℕ) → y ≡ negativeAt φ a k → allOf inRange y ≡ true
-  unfolding negativeAt
-  negative-range a k y e = rw e (side-range (negated a) _)
-
--- How many pairs there are -----------------------------------------------------------------------------------------------
-pub pairs-few : {φ : Formula} {index : List ℕ} → Indexes φ index → (a : ℕ) → pairs φ a ≤ 4190209
-unfolding pairs rawResolvents
-pairs-few {φ} {index} h a =
-    omega (arith, pairs-length a (withLit (plain a) (φ .clauses)) (withLit (negated a) (φ .clauses)), mul-le-mul (listed-few h (plain a)) (listed-few h (negated a)))
-
-pub pairs-are : (φ : Formula) (a m n : ℕ) → m ≡ length (withLit (2 * a) (φ .clauses)) → n ≡ length (withLit (2 * a + 1) (φ .clauses)) → m * n ≡ pairs φ a
-unfolding pairs rawResolvents plain negated
-pairs-are φ a m n e d = rw (e, d) (sym (pairs-length a (withLit (plain a) (φ .clauses)) (withLit (negated a) (φ .clauses))))
+use Rattle.weigh.proofs.ResolvResult.{resolved-next, resolved-grows, became-at, pair-free}
 
 -- Whether a clause came before: the loop over the first k pairs ---------------------------------------------------------------
 module _ (φ : Formula) (w : wellFormed φ ≡ true) (a k : ℕ) (h : k < pairs φ a) (c : List ℕ) (j : ℕ)
@@ -98,7 +43,8 @@ module _ (φ : Formula) (w : wellFormed φ ≡ true) (a k : ℕ) (h : k < pairs 
     before-found l e =
         any-found (λ raw. becomes c (tidy (restOf φ a) raw)) [] (take k (rawResolvents φ a)) j inv (omega (arith, first-length)) (first-at l b is ∙ e)
 
-    pub before-turn : j < k → b ≡ false → cameBefore φ a k c ≡ anyOf (λ raw. becomes c (tidy (restOf φ a) raw)) (drop (j + 1) (take k (rawResolvents φ a)))
+    pub before-turn : j < k → b ≡ false
+        → cameBefore φ a k c ≡ anyOf (λ raw. becomes c (tidy (restOf φ a) raw)) (drop (j + 1) (take k (rawResolvents φ a)))
     before-turn l e =
         any-turn (λ raw. becomes c (tidy (restOf φ a) raw)) [] (take k (rawResolvents φ a)) j inv (omega (arith, first-length)) (first-at l b is ∙ e)
 
@@ -137,9 +83,11 @@ module _ (φ : Formula) (w : wellFormed φ ≡ true) (a k : ℕ) (h : k < pairs 
         let x = take (p .size) s in
         let new : anyOf (same x) cs ≡ false = sym there ∙ t in
         let n : resolvedTo φ a (k + 1) .clauses ≡ addTidied cs (kept x) = resolved-next φ w a k h ∙ ap (addTidied cs) (made-kept e) in
-        let c : d .clauses + 1 ≡ length (resolvedTo φ a (k + 1) .clauses) = ap (λ (y : Counts). y .clauses + 1) is ∙ sym (ap length n ∙ add-clauses cs x new) in
+        let c : d .clauses + 1 ≡ length (resolvedTo φ a (k + 1) .clauses) = ap (λ (y : Counts). y .clauses + 1) is
+        ∙ sym (ap length n ∙ add-clauses cs x new) in
         let m : d .literals + p .size ≡ literals (resolvedTo φ a (k + 1) .clauses) =
-        ap (λ (y : Counts). y .literals + p .size) is ∙ sym (ap literals n ∙ add-literals cs x new ∙ ap (λ (y : ℕ). literals cs + y) (length-take-le (p .size) s room)) in
+        ap (λ (y : Counts). y .literals + p .size) is
+        ∙ sym (ap literals n ∙ add-literals cs x new ∙ ap (λ (y : ℕ). literals cs + y) (length-take-le (p .size) s room)) in
         let v : d .variables ≡ length (restOf φ a) = ap (λ (y : Counts). y .variables) is in
         λ i. record { variables = v i; clauses = c i; literals = m i; second = d .second }
 
@@ -180,13 +128,20 @@ module _ (ψ : Formula) (d : Counts) (is : d ≡ countsOf ψ (d .second)) where
       pub weighed-literals : 8191 < d .literals → Wide ≡ weighed below ψ
       weighed-literals k = sym (light ∙ rw (false-of (fits ψ) (λ f. omega (arith, room-of ψ f .literals, counted .2))))
 
-      pub weighed-fitting : allOf (λ q. leb (var q) 1023) (ψ .prefix) ≡ true → d .variables ≤ 1023 → d .clauses ≤ 2047 → d .literals ≤ 8191 → Fitting n ≡ weighed below ψ
+      pub weighed-fitting : allOf (λ q. leb (var q) 1023) (ψ .prefix) ≡ true → d .variables ≤ 1023 → d .clauses ≤ 2047 → d .literals ≤ 8191
+          → Fitting n ≡ weighed below ψ
       weighed-fitting s v c l =
           let f : fits ψ ≡ true =
-          of-room ψ (record { variables = omega (arith, counted .0); numbers = s; clauses = omega (arith, counted .1); literals = omega (arith, counted .2) }) in
+          of-room ψ (record {
+            variables = omega (arith, counted .0);
+            numbers = s;
+            clauses = omega (arith, counted .1);
+            literals = omega (arith, counted .2);
+          }) in
           ap Fitting e ∙ sym (light ∙ rw f)
 
 -- after k pairs: the whole result is not lighter
-pub over-early : (φ : Formula) → wellFormed φ ≡ true → (a k below n : ℕ) → n ≡ weight (resolvedTo φ a k) → below ≤ n → Over ≡ weighed below (resultOf φ resolve a 0)
+pub over-early : (φ : Formula) → wellFormed φ ≡ true → (a k below n : ℕ) → n ≡ weight (resolvedTo φ a k) → below ≤ n
+    → Over ≡ weighed below (resultOf φ resolve a 0)
 unfolding weighed
 over-early φ w a k below n e h = rw (le-ltb (weight (resultOf φ resolve a 0)) below (omega (arith, resolved-grows φ w a k)))

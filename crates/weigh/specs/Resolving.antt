@@ -1,6 +1,5 @@
 -- Step 6, resolve, resolvent by resolvent: what the k-th of them is, and the result with the first k only.
 -- Assumes nothing.
-use mathlib.Core.Path.{_≡_}
 use Prim.Native.Nat.{ℕ, _+_, _*_, _/_, _%_, _≤_}
 use mathlib.Core.Bool.{Bool, false, _||_, cond}
 use mathlib.Core.List.{List, [], _∷_, _++_}
@@ -65,7 +64,7 @@ covers x y c = allOf (λ l. has l x || has l y) c
 unfoldable pub resolventAt : Formula → ℕ → ℕ → Tidied
 resolventAt φ a k = tidy (restOf φ a) (resolvent a (positiveAt φ a k) (negativeAt φ a k))
 
--- all resolvents in order, raw; there is a pair k
+-- all resolvents in order, raw, and how many pairs there are
 unfoldable pub rawResolvents : Formula → ℕ → List (List ℕ)
 rawResolvents φ a = resolvents a (withLit (plain a) (φ .clauses)) (withLit (negated a) (φ .clauses))
 

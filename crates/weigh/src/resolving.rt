@@ -1,194 +1,29 @@
-// Step 6, resolve: the weight of its result, resolvent by resolvent.
+// Step 6, resolve: the weight of its result, against a bound.
 ghost use mathlib.Core.Path.{_≡_};
-ghost use Prim.Native.Nat.{_+_, _≤_, _<_};
-ghost use mathlib.Core.Bool.{true, false};
+ghost use Prim.Native.Nat.{_<_};
+ghost use mathlib.Core.Bool.{true};
 ghost use lib.Dec.{leb};
 ghost use lib.ListN.{length};
-ghost use Rattle.meaning.specs.Lists.{allOf, anyOf, same};
+ghost use Rattle.meaning.specs.Lists.{allOf};
 ghost use Rattle.meaning.specs.Formula.{Formula, var, mentions};
 ghost use Rattle.meaning.specs.WellFormed.{weight};
 ghost use Rattle.rules.specs.Eliminate.{resolvePermitted};
 ghost use Rattle.rules.specs.Entry.{resolve};
 ghost use Rattle.rules.specs.Step.{resultOf};
-ghost use Rattle.table.specs.Table.{countsOf, clauseMore};
-ghost use Rattle.index.specs.Index.{Indexes, Indexed};
+ghost use Rattle.table.specs.Table.{countsOf};
 ghost use Rattle.index.specs.Study.{Studied, Study};
 ghost use Rattle.weigh.specs.Weights.{weighed, weighedStep};
-ghost use Rattle.weigh.specs.Resolving.{Filed, File, pairs, positiveAt, negativeAt, resolventAt, resolvedTo, tidiedIn, becomes, cameBefore, Bounded};
+ghost use Rattle.weigh.specs.Resolving.{Filed, File, resolvedTo, Bounded};
 use crate::Weighed;
-use crate::resolvents::is_resolvent;
-use crate::resolvents::resolve_pair;
-use crate::sides::clause_with;
+use crate::pairing::add_pair;
+use crate::pairing::pair_count;
 use crate::sides::count_with;
-use crate::sides::is_clause;
 use crate::sides::side_near;
 use crate::sides::side_size;
 use permits::first_universal;
 use permits::is_existential;
 use permits::place_of;
 use table::Counts;
-use table::Pending;
-
-// The positive clause of pair k.
-fn positive_at<'a>(t: &'a [u16], c: Counts, index: &[u16], a: usize, k: usize) -> &'a [u16]
-    requires { ⌜ File (now t) c (now index) ⌝ }
-    requires { ⌜ (a < 1024) × ((φ : Formula) → Indexes φ (now index) → k < pairs φ a) ⌝ }
-    ensures { λ r. ⌜ ((φ : Formula) → Filed φ (now (t .entry)) c (now (index .entry)) → now r ≡ positiveAt φ a k) ⌝ }
-{
-    let literal = 2 * a as u16;
-    let n = count_with(index, literal + 1);
-    clause_with(t, c, index, literal, k / n)
-}
-
-// The negative clause of pair k.
-fn negative_at<'a>(t: &'a [u16], c: Counts, index: &[u16], a: usize, k: usize) -> &'a [u16]
-    requires { ⌜ File (now t) c (now index) ⌝ }
-    requires { ⌜ (a < 1024) × ((φ : Formula) → Indexes φ (now index) → k < pairs φ a) ⌝ }
-    ensures { λ r. ⌜ ((φ : Formula) → Filed φ (now (t .entry)) c (now (index .entry)) → now r ≡ negativeAt φ a k) ⌝ }
-{
-    let literal = 2 * a as u16 + 1;
-    let n = count_with(index, literal);
-    clause_with(t, c, index, literal, k % n)
-}
-
-// How many pairs there are.
-fn pair_count(index: &[u16], a: usize) -> usize
-    requires { ⌜ Indexed (now index) ⌝ }
-    requires { ⌜ a < 1024 ⌝ }
-    ensures { λ r. ⌜ ((φ : Formula) → Indexes φ (now (index .entry)) → r ≡ pairs φ a) ⌝ }
-{
-    let literal = 2 * a as u16;
-    count_with(index, literal) * count_with(index, literal + 1)
-}
-
-// Whether the resolvent of pair k is the clause.
-fn gives(
-    t: &[u16],
-    c: Counts,
-    ranks: &[u16],
-    index: &[u16],
-    again: &mut [u16],
-    a: usize,
-    k: usize,
-    clause: &[u16],
-) -> bool
-    requires { ⌜ Study (now t) c (now ranks) (now index) ⌝ }
-    requires { ⌜ (length (now again) ≡ 1023) × (a < 1024) × ((φ : Formula) → Indexes φ (now index) → k < pairs φ a) ⌝ }
-    ensures { λ r. ⌜ ((φ : Formula) → Studied φ (now (t .entry)) c (now (ranks .entry)) (now (index .entry)) → r ≡ becomes (now (clause .entry)) (resolventAt φ a k)) ⌝ }
-{
-    let x = positive_at(t, c, index, a, k);
-    let y = negative_at(t, c, index, a, k);
-    is_resolvent(again, x, y, a, ranks, clause)
-}
-
-// Whether one of the first k resolvents is the clause: each is made again.
-fn came_before(
-    t: &[u16],
-    c: Counts,
-    ranks: &[u16],
-    index: &[u16],
-    again: &mut [u16],
-    a: usize,
-    k: usize,
-    clause: &[u16],
-) -> bool
-    requires { ⌜ Study (now t) c (now ranks) (now index) ⌝ }
-    requires { ⌜ (length (now again) ≡ 1023) × (a < 1024) × ((φ : Formula) → Indexes φ (now index) → k < pairs φ a) ⌝ }
-    ensures { λ r. ⌜ ((φ : Formula) → Studied φ (now (t .entry)) c (now (ranks .entry)) (now (index .entry)) → r ≡ cameBefore φ a k (now (clause .entry))) ⌝ }
-{
-    let mut j = 0;
-    while j < k {
-        if gives(t, c, ranks, index, again, a, j, clause) {
-            return true;
-        }
-        j += 1;
-    }
-    false
-}
-
-// Whether the clause, which does not have the variable, is there after the first k pairs.
-fn is_there(
-    t: &[u16],
-    c: Counts,
-    ranks: &[u16],
-    index: &[u16],
-    again: &mut [u16],
-    a: usize,
-    k: usize,
-    clause: &[u16],
-) -> bool
-    requires { ⌜ Study (now t) c (now ranks) (now index) ⌝ }
-    requires { ⌜ (length (now again) ≡ 1023) × (a < 1024) × ((φ : Formula) → Indexes φ (now index) → k < pairs φ a) ⌝ }
-    ensures { λ r. ⌜ ((φ : Formula) → Studied φ (now (t .entry)) c (now (ranks .entry)) (now (index .entry)) → mentions (now (clause .entry)) a ≡ false → r ≡ anyOf (same (now (clause .entry))) (resolvedTo φ a k .clauses)) ⌝ }
-{
-    if is_clause(t, c, index, clause) {
-        return true;
-    }
-    came_before(t, c, ranks, index, again, a, k, clause)
-}
-
-// The resolvent of pair k, tidied, in the scratch.
-fn resolvent_at(
-    t: &[u16],
-    c: Counts,
-    ranks: &[u16],
-    index: &[u16],
-    scratch: &mut [u16],
-    a: usize,
-    k: usize,
-) -> Pending
-    requires { ⌜ Study (now t) c (now ranks) (now index) ⌝ }
-    requires { ⌜ (length (now scratch) ≡ 1023) × (a < 1024) × ((φ : Formula) → Indexes φ (now index) → k < pairs φ a) ⌝ }
-    ensures { λ r. ⌜ r .size ≤ 1023 ⌝ }
-    ensures { λ r. ⌜ ((φ : Formula) → Studied φ (now (t .entry)) c (now (ranks .entry)) (now (index .entry)) → tidiedIn (now (scratch .exit)) r ≡ resolventAt φ a k) ⌝ }
-{
-    let x = positive_at(t, c, index, a, k);
-    let y = negative_at(t, c, index, a, k);
-    resolve_pair(scratch, x, y, a, ranks)
-}
-
-// The counts with a clause of so many literals more, whether it fits or not.
-fn with_more(d: Counts, size: usize) -> Counts
-    requires { ⌜ Bounded 5000000 d ⌝ }
-    requires { ⌜ size ≤ 1023 ⌝ }
-    ensures { λ r. ⌜ r ≡ clauseMore d size ⌝ }
-{
-    Counts {
-        variables: d.variables,
-        clauses: d.clauses + 1,
-        literals: d.literals + size,
-        second: d.second,
-    }
-}
-
-// The counts after pair k, from those before it.
-fn add_pair(
-    t: &[u16],
-    c: Counts,
-    ranks: &[u16],
-    index: &[u16],
-    scratch: &mut [u16],
-    again: &mut [u16],
-    a: usize,
-    k: usize,
-    d: Counts,
-) -> Counts
-    requires { ⌜ Study (now t) c (now ranks) (now index) ⌝ }
-    requires { ⌜ (length (now scratch) ≡ 1023) × (length (now again) ≡ 1023) × (a < 1024) × ((φ : Formula) → Indexes φ (now index) → k < pairs φ a) ⌝ }
-    requires { ⌜ Bounded k d ⌝ }
-    ensures { λ r. ⌜ Bounded (k + 1) r ⌝ }
-    ensures { λ r. ⌜ ((φ : Formula) → Studied φ (now (t .entry)) c (now (ranks .entry)) (now (index .entry)) → d ≡ countsOf (resolvedTo φ a k) (d .second) → r ≡ countsOf (resolvedTo φ a (k + 1)) (r .second)) ⌝ }
-{
-    let p = resolvent_at(t, c, ranks, index, scratch, a, k);
-    if p.both {
-        return d;
-    }
-    let m = p.size;
-    if is_there(t, c, ranks, index, again, a, k, &scratch[..m]) {
-        return d;
-    }
-    with_more(d, m)
-}
 
 // The weight of a formula with these counts.
 fn weight_of(d: Counts) -> usize

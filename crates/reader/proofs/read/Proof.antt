@@ -1,4 +1,4 @@
--- Refused for a length; else both tables are zeroed, and the first is filled, or zeroed again.
+-- Refused for a length; else both tables are zeroed, the first is filled, or zeroed again, and the second is zeroed again.
 -- Assumes nothing.
 use mathlib.Core.Path.{refl}
 use borrow.Author.Needs.{needs}
@@ -37,16 +37,22 @@ slice-aggregate-fill-2 : tie.Need-slice-aggregate-fill-2
 slice-aggregate-fill-2 c = search needs
 
 fill-requires : tie.Need-fill-requires
-fill-requires c κs = (c .before .before .before .before .before .before .before .before .before .before .before .if3 .left, starts _ (c .before .before .before .before .before .before .before .before .before .zero .ensures))
-
-enum-known-counts : tie.Need-enum-known-counts
-enum-known-counts c = search needs
-
-enum-known-k : tie.Need-enum-known-k
-enum-known-k c = search needs
+fill-requires c κs =
+    let z = c .before .before .before .before .before .before in
+    let y = z .before .before .before .before in
+    (y .before .before .if3 .left, starts _ _ (y .zero .ensures) (z .zero2 .ensures))
 
 zero-requires-3 : tie.Need-zero-requires-3
 zero-requires-3 c κs = search needs
+
+enum-known-outcome : tie.Need-enum-known-outcome
+enum-known-outcome c = search needs
+
+enum-known-outcome-2 : tie.Need-enum-known-outcome-2
+enum-known-outcome-2 c = search needs
+
+zero-requires-4 : tie.Need-zero-requires-4
+zero-requires-4 c κs = search needs
 
 refuse-requires-4 : tie.Need-refuse-requires-4
 refuse-requires-4 c κs = search needs
@@ -58,7 +64,12 @@ same-length-2 : tie.Need-same-length-2
 same-length-2 c = search needs
 
 returns-4 : tie.Need-returns-4
-returns-4 c = reads-formula _ _ _ (right-lengths _ _ _ (c .before .before .before .before .before .before .before .before .before .before .before .before .before .before .before .before .before .before .before .before .before .if1 .left) (c .before .before .before .before .before .before .before .before .before .before .before .before .before .before .before .before .before .before .before .before .if2 .left) (c .before .before .before .before .before .before .before .before .before .before .before .before .before .before .before .before .before .before .before .if3 .left)) _ _ (c .before .before .before .before .before .before .before .fill .ensures) _ (c .before .before .before .before .before .before .before .before .before .before .before .before .before .zero2 .ensures) _ (c .before .counts .given .1) _ refl
+returns-4 c =
+    let z = c .before .before .before .before .before in
+    let f = z .before .before .before .before .before .before .before .before in
+    let e = f .before .before .before .before .before .before .before .before .before .before .before .before .before in
+    let lengths = right-lengths _ _ _ (e .before .before .if1 .left) (e .before .if2 .left) (e .if3 .left) in
+    reads-formula _ _ _ lengths _ _ (f .fill .ensures) _ (z .zero3 .ensures) _ (c .before .outcome .given .1) _ refl
 
 same-length-3 : tie.Need-same-length-3
 same-length-3 c = search needs
@@ -67,7 +78,14 @@ same-length-4 : tie.Need-same-length-4
 same-length-4 c = search needs
 
 returns-5 : tie.Need-returns-5
-returns-5 c = reads-fault _ _ _ (right-lengths _ _ _ (c .before .before .before .before .before .before .before .before .before .before .before .before .before .before .before .before .before .before .before .before .before .before .before .before .before .before .if1 .left) (c .before .before .before .before .before .before .before .before .before .before .before .before .before .before .before .before .before .before .before .before .before .before .before .before .before .if2 .left) (c .before .before .before .before .before .before .before .before .before .before .before .before .before .before .before .before .before .before .before .before .before .before .before .before .if3 .left)) _ _ (c .before .before .before .before .before .before .before .before .before .before .before .before .fill .ensures) _ (c .before .before .before .before .before .before .before .before .before .before .before .before .before .before .before .before .before .before .zero2 .ensures) _ _ (c .before .before .before .before .before .before .k .given .1) _ (c .before .before .before .zero3 .ensures) _ (c .refuse4 .ensures)
+returns-5 c =
+    let o = c .before .before .before .before .before .before in
+    let z = o .before .before .before .before in
+    let f = z .before .before .before .before .before .before .before .before in
+    let e = f .before .before .before .before .before .before .before .before .before .before .before .before .before in
+    let lengths = right-lengths _ _ _ (e .before .before .if1 .left) (e .before .if2 .left) (e .if3 .left) in
+    reads-fault _ _ _ lengths _ _ (f .fill .ensures) _ (z .zero3 .ensures) _ _ (o .outcome2 .given .1)
+    _ (c .before .before .before .zero4 .ensures) _ (c .refuse4 .ensures)
 
 pub read-spec : {M : Type 1} → statement M
 read-spec =
@@ -84,9 +102,10 @@ read-spec =
     slice-aggregate-fill
     slice-aggregate-fill-2
     fill-requires
-    enum-known-counts
-    enum-known-k
     zero-requires-3
+    enum-known-outcome
+    enum-known-outcome-2
+    zero-requires-4
     refuse-requires-4
     same-length
     same-length-2

@@ -25,6 +25,9 @@ abbrev μ-loop : tie.MeasureT-loop
 clear-spare-requires : tie.Need-clear-spare-requires Inv-loop μ-loop
 clear-spare-requires c κs = search needs
 
+ended-requires : tie.Need-ended-requires Inv-loop μ-loop
+ended-requires c κs = search needs
+
 same-length : tie.Need-same-length Inv-loop μ-loop
 same-length c = search needs
 
@@ -32,7 +35,7 @@ same-length-2 : tie.Need-same-length-2 Inv-loop μ-loop
 same-length-2 c = search needs
 
 returns : tie.Need-returns Inv-loop μ-loop
-returns c = λ φ l. along-bad (lends-here l (c .before .before .before .before .before .clear-spare .ensures φ l)) _ (c .if1 .taken)
+returns c = λ φ l. rw (c .ended .ensures) (along-bad (lends-here l (c .before .before .before .before .before .before .clear-spare .ensures φ l)) _ (c .before .if1 .taken))
 
 loop-holds : tie.Need-loop-holds Inv-loop μ-loop
 loop-holds c = (refl, refl, λ φ h. along-start h _ (c .if1 .left))
@@ -68,6 +71,9 @@ enum-known-e c = search needs
 enum-told : tie.Need-enum-told Inv-loop μ-loop
 enum-told c = search needs
 
+ended-requires-2 : tie.Need-ended-requires-2 Inv-loop μ-loop
+ended-requires-2 c κs = search needs
+
 same-length-3 : tie.Need-same-length-3 Inv-loop μ-loop
 same-length-3 c = search needs
 
@@ -77,15 +83,18 @@ same-length-4 c = search needs
 returns-2 : tie.Need-returns-2 Inv-loop μ-loop
 unfolding stopAs refusedAs
 returns-2 c =
-    let st = c .before .before .before .before .before .before in
+    let st = c .before .before .before .before .before .before .before in
     let f = st .before .before .before in
     let t = f .before .before in
     let k = t .before in
     λ φ l. let a = k .loop .inv .2 φ (lends-here l (k .before .before .before .before .before .before .clear-spare .ensures φ l)) in
-    along-refused a (t .loop-test .taken) (f .first-entry .ensures) (st .step .ensures) entryBad (c .enum-told .given .1)
+    rw (c .ended2 .ensures) (along-refused a (t .loop-test .taken) (f .first-entry .ensures) (st .step .ensures) entryBad (c .before .enum-told .given .1))
 
 enum-told-2 : tie.Need-enum-told-2 Inv-loop μ-loop
 enum-told-2 c = search needs
+
+ended-requires-3 : tie.Need-ended-requires-3 Inv-loop μ-loop
+ended-requires-3 c κs = search needs
 
 same-length-5 : tie.Need-same-length-5 Inv-loop μ-loop
 same-length-5 c = search needs
@@ -96,15 +105,18 @@ same-length-6 c = search needs
 returns-3 : tie.Need-returns-3 Inv-loop μ-loop
 unfolding stopAs refusedAs
 returns-3 c =
-    let st = c .before .before .before .before .before .before in
+    let st = c .before .before .before .before .before .before .before in
     let f = st .before .before .before in
     let t = f .before .before in
     let k = t .before in
     λ φ l. let a = k .loop .inv .2 φ (lends-here l (k .before .before .before .before .before .before .clear-spare .ensures φ l)) in
-    along-refused a (t .loop-test .taken) (f .first-entry .ensures) (st .step .ensures) notPermitted (c .enum-told2 .given .1)
+    rw (c .ended3 .ensures) (along-refused a (t .loop-test .taken) (f .first-entry .ensures) (st .step .ensures) notPermitted (c .before .enum-told2 .given .1))
 
 enum-told-3 : tie.Need-enum-told-3 Inv-loop μ-loop
 enum-told-3 c = search needs
+
+ended-requires-4 : tie.Need-ended-requires-4 Inv-loop μ-loop
+ended-requires-4 c κs = search needs
 
 same-length-7 : tie.Need-same-length-7 Inv-loop μ-loop
 same-length-7 c = search needs
@@ -115,12 +127,12 @@ same-length-8 c = search needs
 returns-4 : tie.Need-returns-4 Inv-loop μ-loop
 unfolding stopAs refusedAs
 returns-4 c =
-    let st = c .before .before .before .before .before .before in
+    let st = c .before .before .before .before .before .before .before in
     let f = st .before .before .before in
     let t = f .before .before in
     let k = t .before in
     λ φ l. let a = k .loop .inv .2 φ (lends-here l (k .before .before .before .before .before .before .clear-spare .ensures φ l)) in
-    along-refused a (t .loop-test .taken) (f .first-entry .ensures) (st .step .ensures) noRoom (c .enum-told3 .given .1)
+    rw (c .ended4 .ensures) (along-refused a (t .loop-test .taken) (f .first-entry .ensures) (st .step .ensures) noRoom (c .before .enum-told3 .given .1))
 
 add-n : tie.Need-add-n Inv-loop μ-loop
 add-n c = search needs
@@ -139,6 +151,9 @@ loop-again c =
       λ φ h. along-stepped (k .loop .inv .2 φ h) (t .loop-test .taken) (f .first-entry .ensures) (st .step .ensures) _ (c .before .e .given .1),
     )
 
+ended-requires-5 : tie.Need-ended-requires-5 Inv-loop μ-loop
+ended-requires-5 c κs = search needs
+
 same-length-9 : tie.Need-same-length-9 Inv-loop μ-loop
 same-length-9 c = search needs
 
@@ -147,9 +162,9 @@ same-length-10 c = search needs
 
 returns-5 : tie.Need-returns-5 Inv-loop μ-loop
 returns-5 c =
-    let k = c .before in
+    let k = c .before .before in
     λ φ l. let a = k .loop .inv .2 φ (lends-here l (k .before .before .before .before .before .before .clear-spare .ensures φ l)) in
-    along-end a (k .before .if1 .left) (c .loop-test .left)
+    rw (c .ended5 .ensures) (along-end a (k .before .if1 .left) (c .before .loop-test .left))
 
 pub replay-spec : {M : Type 1} → statement M
 replay-spec =
@@ -158,6 +173,7 @@ replay-spec =
     Inv-loop
     μ-loop
     clear-spare-requires
+    ended-requires
     same-length
     same-length-2
     returns
@@ -170,20 +186,24 @@ replay-spec =
     step-requires
     enum-known-e
     enum-told
+    ended-requires-2
     same-length-3
     same-length-4
     returns-2
     enum-told-2
+    ended-requires-3
     same-length-5
     same-length-6
     returns-3
     enum-told-3
+    ended-requires-4
     same-length-7
     same-length-8
     returns-4
     add-n
     loop-less
     loop-again
+    ended-requires-5
     same-length-9
     same-length-10
     returns-5)

@@ -38,10 +38,14 @@ loop-less : tie.Need-loop-less Inv-loop μ-loop
 loop-less c = search needs
 
 loop-again : tie.Need-loop-again Inv-loop μ-loop
-loop-again c = let l = c .before .before .before .before in (omega arith, all-turn _ 0 _ (l .loop .i) (l .loop .inv .1) (omega arith) (sym (c .before .in-either .ensures) ∙ c .if1 .taken))
+loop-again c =
+    let l = c .before .before .before .before in
+    (omega arith, all-turn _ 0 _ (l .loop .i) (l .loop .inv .1) (omega arith) (sym (c .before .in-either .ensures) ∙ c .if1 .taken))
 
 returns : tie.Need-returns Inv-loop μ-loop
-returns c = let l = c .before .before .before .before in all-fails _ 0 _ (l .loop .i) (l .loop .inv .1) (omega arith) (sym (c .before .in-either .ensures) ∙ c .if1 .left)
+returns c =
+    let l = c .before .before .before .before in
+    all-fails _ 0 _ (l .loop .i) (l .loop .inv .1) (omega arith) (sym (c .before .in-either .ensures) ∙ c .if1 .left)
 
 returns-2 : tie.Need-returns-2 Inv-loop μ-loop
 returns-2 c = let l = c .before in all-end _ 0 _ (l .loop .i) (l .loop .inv .1) (omega arith)

@@ -23,12 +23,23 @@ returns c = λ q g k. becomes-none _ _ _ (c .before .before .before .resolve-pai
 slice-reshare-prefix-equal : tie.Need-slice-reshare-prefix-equal
 slice-reshare-prefix-equal c =
     let r = c .before .before .before in
-    omega (arith, r .resolve-pair .ensures .0, r .resolve-pair .kept .0, r .before .before .before .before .before .before .before .before .before .pre .0 .0)
+    omega (
+      arith,
+      r .resolve-pair .ensures .0,
+      r .resolve-pair .kept .0,
+      r .before .before .before .before .before .before .before .before .before .pre .0 .0,
+    )
 
 slice-aggregate-equal : tie.Need-slice-aggregate-equal
 slice-aggregate-equal c =
     let r = c .before .before .before .before in
-    sym (length-take-le _ _ (omega (arith, r .resolve-pair .ensures .0, r .resolve-pair .kept .0, r .before .before .before .before .before .before .before .before .before .pre .0 .0)))
+    sym (length-take-le _ _
+    (omega (
+      arith,
+      r .resolve-pair .ensures .0,
+      r .resolve-pair .kept .0,
+      r .before .before .before .before .before .before .before .before .before .pre .0 .0,
+    )))
 
 equal-requires : tie.Need-equal-requires
 equal-requires c κs = search needs

@@ -14,7 +14,9 @@ use Rattle.weigh.proofs.resolvents.put_without.Statement.{statement}
 use Rattle.weigh.proofs.resolvents.put_without.Tie as tie
 
 abbrev Inv-loop : tie.InvT-loop
-Inv-loop scratch₀ out clause q₀ i₀ scratch q i = (i ≤ length clause) × (length scratch ≡ length scratch₀) × (allOf inRange clause ≡ true) × ((raw : List ℕ) → Pends raw scratch₀ q₀ → Pends (raw ++ without out (take i clause)) scratch q) × Pended scratch q
+Inv-loop scratch₀ out clause q₀ i₀ scratch q i =
+    (i ≤ length clause) × (length scratch ≡ length scratch₀) × (allOf inRange clause ≡ true)
+    × ((raw : List ℕ) → Pends raw scratch₀ q₀ → Pends (raw ++ without out (take i clause)) scratch q) × Pended scratch q
 
 abbrev μ-loop : tie.MeasureT-loop
 μ-loop scratch₀ out clause q₀ i₀ scratch q i = length clause - i
@@ -44,8 +46,13 @@ loop-less c = omega arith
 loop-again : tie.Need-loop-again Inv-loop μ-loop
 loop-again c =
     let p = c .before .before in
-    let l = p .before .before .before .before in
-    (omega arith, p .put-other .kept .0 ∙ l .loop .inv .1, l .loop .inv .2, λ raw h. others-turn raw _ _ _ _ (l .loop .i) (omega arith) (p .put-other .ensures _ (l .loop .inv .3 raw h)), pended (p .put-other .ensures _ (l .loop .inv .4 .pends)))
+    let l = p .before .before .before .before in (
+      omega arith,
+      p .put-other .kept .0 ∙ l .loop .inv .1,
+      l .loop .inv .2,
+      λ raw h. others-turn raw _ _ _ _ (l .loop .i) (omega arith) (p .put-other .ensures _ (l .loop .inv .3 raw h)),
+      pended (p .put-other .ensures _ (l .loop .inv .4 .pends)),
+    )
 
 same-length : tie.Need-same-length Inv-loop μ-loop
 same-length c = c .before .loop .inv .1

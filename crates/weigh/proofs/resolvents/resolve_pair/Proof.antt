@@ -46,8 +46,12 @@ returns c =
     let t = c .before .before in
     let v = t .before .before .before .before in
     let w = v .before .before .before .before in
-    let s = w .before .before .before .before .before .before .before in
-    (t .tidy-in .ensures .0, λ q g k. t .tidy-in .ensures .1 _ q (pair-pends _ _ _ _ _ _ refl (v .put-without2 .ensures _ (w .put-without .ensures [] (pends-empty _ _ (w .before .empty .ensures) (s .pre .0 .0))))) g k)
+    let s = w .before .before .before .before .before .before .before in (
+      t .tidy-in .ensures .0,
+      λ q g k. t .tidy-in .ensures .1 _ q
+          (pair-pends _ _ _ _ _ _ refl
+          (v .put-without2 .ensures _ (w .put-without .ensures [] (pends-empty _ _ (w .before .empty .ensures) (s .pre .0 .0))))) g k,
+    )
 
 pub resolve-pair-spec : {M : Type 1} → statement M
 resolve-pair-spec =

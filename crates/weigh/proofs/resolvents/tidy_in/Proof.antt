@@ -22,8 +22,10 @@ same-length c = search needs
 returns-2 : tie.Need-returns-2
 returns-2 c =
     let r = c .before .before in
-    let e = r .before .before in
-    (omega (arith, e .before .before .before .pre .0 .pends .within, r .reduce-in .ensures .0), λ raw q d g k. tidied-one d q (e .if1 .left) g _ k _ _ (r .reduce-in .ensures .1))
+    let e = r .before .before in (
+      omega (arith, e .before .before .before .pre .0 .pends .within, r .reduce-in .ensures .0),
+      λ raw q d g k. tidied-one d q (e .if1 .left) g _ k _ _ (r .reduce-in .ensures .1),
+    )
 
 pub tidy-in-spec : {M : Type 1} → statement M
 tidy-in-spec = tie.close (tie.spec returns reduce-in-requires same-length returns-2)

@@ -27,7 +27,11 @@ add-clauses c =
     let s = c .before .before .before .before in
     let f = s .pre .0 in
     let b = holds-bounds (f .filed .holds) in
-    omega (arith, left-clauses (f .filed) (s .args .a) _ _ (c .before .count-with .ensures (f .formula) (f .filed .indexes)) (c .count-with2 .ensures (f .formula) (f .filed .indexes)))
+    omega (
+      arith,
+      left-clauses (f .filed) (s .args .a) _ _ (c .before .count-with .ensures (f .formula) (f .filed .indexes))
+          (c .count-with2 .ensures (f .formula) (f .filed .indexes)),
+    )
 
 side-size-requires : tie.Need-side-size-requires
 side-size-requires c κs = search needs
@@ -43,7 +47,11 @@ add-literals c =
     let s = c .before .before .before .before .before .before in
     let f = s .pre .0 in
     let b = holds-bounds (f .filed .holds) in
-    omega (arith, left-literals (f .filed) (s .args .a) _ _ (c .before .side-size .ensures (f .formula) (f .filed)) (c .side-size2 .ensures (f .formula) (f .filed)))
+    omega (
+      arith,
+      left-literals (f .filed) (s .args .a) _ _ (c .before .side-size .ensures (f .formula) (f .filed))
+          (c .side-size2 .ensures (f .formula) (f .filed)),
+    )
 
 sub-t9 : tie.Need-sub-t9
 sub-t9 c = search needs
@@ -53,14 +61,22 @@ sub-t10 c =
     let w = c .before .before .before .before in
     let s = w .before .before .before .before in
     let f = s .pre .0 in
-    omega (arith, left-clauses (f .filed) (s .args .a) _ _ (w .before .count-with .ensures (f .formula) (f .filed .indexes)) (w .count-with2 .ensures (f .formula) (f .filed .indexes)))
+    omega (
+      arith,
+      left-clauses (f .filed) (s .args .a) _ _ (w .before .count-with .ensures (f .formula) (f .filed .indexes))
+          (w .count-with2 .ensures (f .formula) (f .filed .indexes)),
+    )
 
 sub-t11 : tie.Need-sub-t11
 sub-t11 c =
     let z = c .before .before .before in
     let s = z .before .before .before .before .before .before in
     let f = s .pre .0 in
-    omega (arith, left-literals (f .filed) (s .args .a) _ _ (z .before .side-size .ensures (f .formula) (f .filed)) (z .side-size2 .ensures (f .formula) (f .filed)))
+    omega (
+      arith,
+      left-literals (f .filed) (s .args .a) _ _ (z .before .side-size .ensures (f .formula) (f .filed))
+          (z .side-size2 .ensures (f .formula) (f .filed)),
+    )
 
 returns : tie.Need-returns
 returns c =

@@ -18,7 +18,8 @@ is-existential-requires : tie.Need-is-existential-requires
 is-existential-requires c κs = study-ranks (c .before .before .before .pre .0)
 
 slice-aggregate-first-universal : tie.Need-slice-aggregate-first-universal
-slice-aggregate-first-universal c = let b = holds-bounds (c .before .before .before .before .before .before .pre .0 .studied .holds) in sym (length-take-le _ _ (omega arith))
+slice-aggregate-first-universal c =
+    let b = holds-bounds (c .before .before .before .before .before .before .pre .0 .studied .holds) in sym (length-take-le _ _ (omega arith))
 
 place-of-requires : tie.Need-place-of-requires
 place-of-requires c κs = study-ranks (c .before .before .before .before .before .before .pre .0)
@@ -49,7 +50,8 @@ returns c =
     let t = p .before .before in
     let a = t .before .before .before .before .before .args .a in
     λ φ g. let d = entries-of φ (g .well) (g .holds .fitting) in
-    resolve-is φ (g .well) a _ (p .place-of .ensures (φ .prefix) (g .ranked) d) _ (prefix-is (g .holds)) _ (t .before .is-existential .ensures (φ .prefix) (g .ranked) d) (t .if1 .taken) _ (u .first-universal .ensures) _
+    resolve-is φ (g .well) a _ (p .place-of .ensures (φ .prefix) (g .ranked) d) _ (prefix-is (g .holds)) _
+    (t .before .is-existential .ensures (φ .prefix) (g .ranked) d) (t .if1 .taken) _ (u .first-universal .ensures) _
     (sides-second φ a _ _ _ (n .side-near .ensures φ g) (c .before .if2 .taken) (c .side-near2 .ensures φ g))
 
 returns-2 : tie.Need-returns-2
@@ -60,12 +62,14 @@ returns-2 c =
     let t = p .before .before in
     let a = t .before .before .before .before .before .args .a in
     λ φ g. let d = entries-of φ (g .well) (g .holds .fitting) in
-    resolve-is φ (g .well) a _ (p .place-of .ensures (φ .prefix) (g .ranked) d) _ (prefix-is (g .holds)) _ (t .before .is-existential .ensures (φ .prefix) (g .ranked) d) (t .if1 .taken) _ (u .first-universal .ensures) _
+    resolve-is φ (g .well) a _ (p .place-of .ensures (φ .prefix) (g .ranked) d) _ (prefix-is (g .holds)) _
+    (t .before .is-existential .ensures (φ .prefix) (g .ranked) d) (t .if1 .taken) _ (u .first-universal .ensures) _
     (sides-none φ a _ _ (n .side-near .ensures φ g) (c .if2 .left))
 
 returns-3 : tie.Need-returns-3
 unfolding resolvePermitted
-returns-3 c = λ φ g. and-none _ _ _ (c .before .is-existential .ensures (φ .prefix) (g .ranked) (entries-of φ (g .well) (g .holds .fitting))) (c .if1 .left)
+returns-3 c =
+    λ φ g. and-none _ _ _ (c .before .is-existential .ensures (φ .prefix) (g .ranked) (entries-of φ (g .well) (g .holds .fitting))) (c .if1 .left)
 
 pub may-resolve-spec : {M : Type 1} → statement M
 may-resolve-spec =

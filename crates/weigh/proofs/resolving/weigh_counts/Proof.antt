@@ -14,12 +14,15 @@ returns-2 : tie.Need-returns-2
 returns-2 c = let l = c .before .before in λ ψ e s. weighed-clauses ψ _ e _ _ (l .before .weight-of .ensures ψ e) (l .if1 .left) (c .if2 .taken)
 
 returns-3 : tie.Need-returns-3
-returns-3 c = let l = c .before .before .before .before in λ ψ e s. weighed-literals ψ _ e _ _ (l .before .weight-of .ensures ψ e) (l .if1 .left) (c .if3 .taken)
+returns-3 c =
+    let l = c .before .before .before .before in
+    λ ψ e s. weighed-literals ψ _ e _ _ (l .before .weight-of .ensures ψ e) (l .if1 .left) (c .if3 .taken)
 
 returns-4 : tie.Need-returns-4
 returns-4 c =
     let l = c .before .before .before .before in
-    λ ψ e s. weighed-fitting ψ _ e _ _ (l .before .weight-of .ensures ψ e) (l .if1 .left) s (l .before .before .pre .variables) (c .before .before .if2 .left) (c .if3 .left)
+    λ ψ e s. weighed-fitting ψ _ e _ _ (l .before .weight-of .ensures ψ e) (l .if1 .left) s (l .before .before .pre .variables)
+    (c .before .before .if2 .left) (c .if3 .left)
 
 pub weigh-counts-spec : {M : Type 1} → statement M
 weigh-counts-spec = tie.close (tie.spec weight-of-requires returns returns-2 returns-3 returns-4)

@@ -9,7 +9,8 @@ use Rattle.table.specs.Table.{countsOf}
 use Rattle.index.specs.Study.{Studied}
 use Rattle.index.proofs.ReadLaws.{studied-indexes, study-indexed}
 use Rattle.weigh.specs.Resolving.{resolvedTo, Bounded}
-use Rattle.weigh.proofs.ResolvWeigh.{pairs-few, bounded-up, over-early}
+use Rattle.weigh.proofs.ResolvFile.{pairs-few}
+use Rattle.weigh.proofs.ResolvWeigh.{bounded-up, over-early}
 use Rattle.weigh.proofs.ResolvStart.{rest-small, weighed-end}
 use borrow.Author.Needs.{needs}
 use Rattle.weigh.proofs.resolving.weigh_pairs.Statement.{statement}
@@ -17,7 +18,8 @@ use Rattle.weigh.proofs.resolving.weigh_pairs.Tie as tie
 
 abbrev Inv-loop : tie.InvT-loop
 Inv-loop t c ranks index scratch₀ again₀ a below n e₀ k₀ scratch again e k =
-    (k ≤ n) × (length scratch ≡ length scratch₀) × (length again ≡ length again₀) × Bounded k e × ((φ : Formula) → Studied φ t c ranks index → e₀ ≡ countsOf (resolvedTo φ a 0) (e₀ .second) → e ≡ countsOf (resolvedTo φ a k) (e .second))
+    (k ≤ n) × (length scratch ≡ length scratch₀) × (length again ≡ length again₀) × Bounded k e
+    × ((φ : Formula) → Studied φ t c ranks index → e₀ ≡ countsOf (resolvedTo φ a 0) (e₀ .second) → e ≡ countsOf (resolvedTo φ a k) (e .second))
 
 abbrev μ-loop : tie.MeasureT-loop
 μ-loop t c ranks index scratch₀ again₀ a below n e₀ k₀ scratch again e k = n - k
@@ -33,7 +35,8 @@ weight-of-requires c κs =
     let l = c .before in
     let s = l .before .before .before .before .before .before .before in
     let i = study-indexed (s .pre .0) in
-    bounded-up (l .loop .inv .3) 5000000 (omega (arith, l .loop .inv .0, l .before .pair-count .ensures (i .formula) (i .indexes), pairs-few (i .indexes) (s .args .a)))
+    bounded-up (l .loop .inv .3) 5000000
+    (omega (arith, l .loop .inv .0, l .before .pair-count .ensures (i .formula) (i .indexes), pairs-few (i .indexes) (s .args .a)))
 
 same-length : tie.Need-same-length Inv-loop μ-loop
 same-length c = c .before .before .before .loop .inv .1
@@ -45,14 +48,25 @@ returns : tie.Need-returns Inv-loop μ-loop
 returns c =
     let w = c .before in
     let l = w .before .before in
-    λ φ g e. over-early φ (g .well) (l .before .before .before .before .before .before .before .args .a) (l .loop .k) _ _ (w .weight-of .ensures _ (l .loop .inv .4 φ g e)) (c .if1 .taken)
+    λ φ g e. over-early φ (g .well) (l .before .before .before .before .before .before .before .args .a) (l .loop .k) _ _
+    (w .weight-of .ensures _ (l .loop .inv .4 φ g e)) (c .if1 .taken)
 
 add-pair-requires : tie.Need-add-pair-requires Inv-loop μ-loop
 add-pair-requires c κs =
     let i = c .before .before .before .before in
     let l = i .before in
-    let s = l .before .before .before .before .before .before .before in
-    (s .pre .0, ((l .loop .inv .1 ∙ s .pre .1 .0 .0, l .loop .inv .2 ∙ s .pre .1 .0 .1, s .pre .1 .0 .2, λ φ h. omega (arith, l .before .pair-count .ensures φ h, i .loop-test .taken)), l .loop .inv .3))
+    let s = l .before .before .before .before .before .before .before in (
+      s .pre .0,
+      (
+        (
+          l .loop .inv .1 ∙ s .pre .1 .0 .0,
+          l .loop .inv .2 ∙ s .pre .1 .0 .1,
+          s .pre .1 .0 .2,
+          λ φ h. omega (arith, l .before .pair-count .ensures φ h, i .loop-test .taken),
+        ),
+        l .loop .inv .3,
+      ),
+    )
 
 add-k : tie.Need-add-k Inv-loop μ-loop
 add-k c = search needs
@@ -64,15 +78,21 @@ loop-again : tie.Need-loop-again Inv-loop μ-loop
 loop-again c =
     let p = c .before .before .before .before in
     let i = p .before .before .before .before .before in
-    let l = i .before in
-    (omega (arith, i .loop-test .taken), p .add-pair .kept .1 .1 .1 .1 .0 ∙ l .loop .inv .1, p .add-pair .kept .1 .1 .1 .1 .1 .0 ∙ l .loop .inv .2, p .add-pair .ensures .0, λ φ g e. p .add-pair .ensures .1 φ g (l .loop .inv .4 φ g e))
+    let l = i .before in (
+      omega (arith, i .loop-test .taken),
+      p .add-pair .kept .1 .1 .1 .1 .0 ∙ l .loop .inv .1,
+      p .add-pair .kept .1 .1 .1 .1 .1 .0 ∙ l .loop .inv .2,
+      p .add-pair .ensures .0,
+      λ φ g e. p .add-pair .ensures .1 φ g (l .loop .inv .4 φ g e),
+    )
 
 weigh-counts-requires : tie.Need-weigh-counts-requires Inv-loop μ-loop
 weigh-counts-requires c κs =
     let l = c .before in
     let s = l .before .before .before .before .before .before .before in
     let i = study-indexed (s .pre .0) in
-    bounded-up (l .loop .inv .3) 5000000 (omega (arith, l .loop .inv .0, l .before .pair-count .ensures (i .formula) (i .indexes), pairs-few (i .indexes) (s .args .a)))
+    bounded-up (l .loop .inv .3) 5000000
+    (omega (arith, l .loop .inv .0, l .before .pair-count .ensures (i .formula) (i .indexes), pairs-few (i .indexes) (s .args .a)))
 
 same-length-3 : tie.Need-same-length-3 Inv-loop μ-loop
 same-length-3 c = c .before .before .loop .inv .1
@@ -84,7 +104,8 @@ returns-2 : tie.Need-returns-2 Inv-loop μ-loop
 returns-2 c =
     let l = c .before .before in
     let a = l .before .before .before .before .before .before .before .args .a in
-    λ φ g e. weighed-end φ (g .well) a (l .loop .k) _ (omega (arith, l .before .pair-count .ensures φ (studied-indexes g), l .loop .inv .0, c .before .loop-test .left)) _
+    λ φ g e. weighed-end φ (g .well) a (l .loop .k) _
+    (omega (arith, l .before .pair-count .ensures φ (studied-indexes g), l .loop .inv .0, c .before .loop-test .left)) _
     (c .weigh-counts .ensures _ (l .loop .inv .4 φ g e) (rest-small φ (g .holds .fitting) a (l .loop .k)))
 
 pub weigh-pairs-spec : {M : Type 1} → statement M

@@ -20,8 +20,14 @@ counts-left-requires : tie.Need-counts-left-requires
 counts-left-requires c κs =
     let m = c .before in
     let s = m .before .before .before .before .before .before .before in
-    let g = s .pre .0 in
-    (file-of g, (omega (arith, m .before .if1 .left), some-variables (filed-of (g .studied)) (s .args .a) (permitted-there (g .formula) (s .args .a) _ (m .may-resolve .ensures (g .formula) (g .studied)) (c .if2 .taken))))
+    let g = s .pre .0 in (
+      file-of g,
+      (
+        omega (arith, m .before .if1 .left),
+        some-variables (filed-of (g .studied)) (s .args .a)
+            (permitted-there (g .formula) (s .args .a) _ (m .may-resolve .ensures (g .formula) (g .studied)) (c .if2 .taken)),
+      ),
+    )
 
 weigh-pairs-requires : tie.Need-weigh-pairs-requires
 weigh-pairs-requires c κs =

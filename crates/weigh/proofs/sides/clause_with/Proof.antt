@@ -2,7 +2,6 @@
 -- Assumes nothing.
 use native.Mathlib.Omega.{arith}
 use mathlib.Core.Path.{_∙_}
-use borrow.Author.Needs.{needs}
 use Rattle.table.proofs.HoldLaws.{count-clauses}
 use Rattle.weigh.proofs.ResolvFile.{file-held, file-indexed, listed-there, listed-below, listed-clause, listed-few}
 use Rattle.weigh.proofs.sides.clause_with.Statement.{statement}
@@ -21,7 +20,8 @@ shared-slice-read-j : tie.Need-shared-slice-read-j
 shared-slice-read-j c =
     let s = c .before .before .before .before in
     let f = s .pre .0 in
-    listed-there (f .formula .clauses) _ _ (c .before .clauses-with .ensures (f .formula) (f .filed .indexes)) _ (s .pre .1 (f .formula) (f .filed .indexes))
+    listed-there (f .formula .clauses) _ _ (c .before .clauses-with .ensures (f .formula) (f .filed .indexes)) _
+    (s .pre .1 (f .formula) (f .filed .indexes))
 
 cast-j : tie.Need-cast-j
 cast-j c = omega (arith, c .shared-slice-known3 .given (c .before .before .before .before .args .i))
@@ -29,8 +29,15 @@ cast-j c = omega (arith, c .shared-slice-known3 .given (c .before .before .befor
 clause-at-requires : tie.Need-clause-at-requires
 clause-at-requires c κs =
     let s = c .before .before .before .before in
-    let f = s .pre .0 in
-    (file-held f, omega (arith, count-clauses (f .filed .holds), listed-below (f .formula .clauses) _ _ (c .before .clauses-with .ensures (f .formula) (f .filed .indexes)) _ (s .pre .1 (f .formula) (f .filed .indexes))))
+    let f = s .pre .0 in (
+      file-held f,
+      omega (
+        arith,
+        count-clauses (f .filed .holds),
+        listed-below (f .formula .clauses) _ _ (c .before .clauses-with .ensures (f .formula) (f .filed .indexes)) _
+            (s .pre .1 (f .formula) (f .filed .indexes)),
+      ),
+    )
 
 returns : tie.Need-returns
 returns c =

@@ -16,7 +16,9 @@ use Rattle.weigh.proofs.sides.is_among.Statement.{statement}
 use Rattle.weigh.proofs.sides.is_among.Tie as tie
 
 abbrev Inv-loop : tie.InvT-loop
-Inv-loop t c index literal clause n i₀ i = (i ≤ n) × ((φ : Formula) → Filed φ t c index → anyOf (same clause) (withLit literal (φ .clauses)) ≡ anyOf (same clause) (drop i (withLit literal (φ .clauses))))
+Inv-loop t c index literal clause n i₀ i =
+    (i ≤ n) × ((φ : Formula) → Filed φ t c index → anyOf (same clause) (withLit literal (φ .clauses))
+    ≡ anyOf (same clause) (drop i (withLit literal (φ .clauses))))
 
 abbrev μ-loop : tie.MeasureT-loop
 μ-loop t c index literal clause n i₀ i = n - i
@@ -28,7 +30,8 @@ loop-holds : tie.Need-loop-holds Inv-loop μ-loop
 loop-holds c = (omega arith, λ φ f. refl)
 
 clause-with-requires : tie.Need-clause-with-requires Inv-loop μ-loop
-clause-with-requires c κs = let l = c .before in (l .before .before .before .before .before .pre, λ φ h. omega (arith, l .before .count-with .ensures φ h))
+clause-with-requires c κs =
+    let l = c .before in (l .before .before .before .before .before .pre, λ φ h. omega (arith, l .before .count-with .ensures φ h))
 
 equal-requires : tie.Need-equal-requires Inv-loop μ-loop
 equal-requires c κs = search needs
@@ -37,7 +40,8 @@ returns : tie.Need-returns Inv-loop μ-loop
 returns c =
     let w = c .before .before in
     let l = w .before .before in
-    λ φ f. any-found (same _) [] (withLit _ (φ .clauses)) (l .loop .i) (l .loop .inv .1 φ f) (omega (arith, l .before .count-with .ensures φ (f .indexes)))
+    λ φ f. any-found (same _) [] (withLit _ (φ .clauses)) (l .loop .i) (l .loop .inv .1 φ f)
+    (omega (arith, l .before .count-with .ensures φ (f .indexes)))
     (ap (same _) (sym (w .clause-with .ensures φ f)) ∙ sym (c .before .equal .ensures) ∙ c .if1 .taken)
 
 add-i : tie.Need-add-i Inv-loop μ-loop
@@ -51,14 +55,16 @@ loop-again c =
     let w = c .before .before in
     let l = w .before .before in (
       omega arith,
-      λ φ f. any-turn (same _) [] (withLit _ (φ .clauses)) (l .loop .i) (l .loop .inv .1 φ f) (omega (arith, l .before .count-with .ensures φ (f .indexes)))
+      λ φ f. any-turn (same _) [] (withLit _ (φ .clauses)) (l .loop .i) (l .loop .inv .1 φ f)
+          (omega (arith, l .before .count-with .ensures φ (f .indexes)))
           (ap (same _) (sym (w .clause-with .ensures φ f)) ∙ sym (c .before .equal .ensures) ∙ c .if1 .left),
     )
 
 returns-2 : tie.Need-returns-2 Inv-loop μ-loop
 returns-2 c =
     let l = c .before in
-    λ φ f. any-end (same _) [] (withLit _ (φ .clauses)) (l .loop .i) (l .loop .inv .1 φ f) (omega (arith, l .before .count-with .ensures φ (f .indexes)))
+    λ φ f. any-end (same _) [] (withLit _ (φ .clauses)) (l .loop .i) (l .loop .inv .1 φ f)
+    (omega (arith, l .before .count-with .ensures φ (f .indexes)))
 
 pub is-among-spec : {M : Type 1} → statement M
 is-among-spec =

@@ -1,7 +1,7 @@
 -- The loop's invariant: the best so far and the literals that are left decide.
 -- Assumes nothing.
 use Prim.Native.Nat.{_≤_, _-_}
-use mathlib.Core.Path.{_≡_, refl, sym, ap, _∙_}
+use mathlib.Core.Path.{_≡_, refl, sym, _∙_}
 use native.Mathlib.Omega.{arith}
 use lib.ListN.{length, getD, drop}
 use Rattle.meaning.specs.Formula.{Formula}
@@ -13,7 +13,9 @@ use Rattle.weigh.proofs.sides.rarest.Statement.{statement}
 use Rattle.weigh.proofs.sides.rarest.Tie as tie
 
 abbrev Inv-loop : tie.InvT-loop
-Inv-loop index clause best₀ i₀ best i = (1 ≤ i) × (i ≤ length clause) × ((φ : Formula) → Indexes φ index → rarestOf (φ .clauses) best (drop i clause) ≡ rarestOf (φ .clauses) (getD clause 0 0) (drop 1 clause))
+Inv-loop index clause best₀ i₀ best i =
+    (1 ≤ i) × (i ≤ length clause) × ((φ : Formula) → Indexes φ index → rarestOf (φ .clauses) best (drop i clause) ≡ rarestOf (φ .clauses)
+    (getD clause 0 0) (drop 1 clause))
 
 abbrev μ-loop : tie.MeasureT-loop
 μ-loop index clause best₀ i₀ best i = length clause - i

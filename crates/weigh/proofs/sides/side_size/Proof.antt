@@ -1,8 +1,7 @@
 -- The loop's invariant: the sum, and the literals of the clauses that are left, are all.
 -- Assumes nothing.
 use Prim.Native.Nat.{_≤_, _-_, _+_}
-use mathlib.Core.Path.{_≡_, refl, sym, ap, _∙_}
-use mathlib.Core.List.{[]}
+use mathlib.Core.Path.{_≡_}
 use native.Mathlib.Omega.{arith}
 use lib.ListN.{drop}
 use Rattle.meaning.specs.Formula.{Formula}
@@ -16,7 +15,8 @@ use Rattle.weigh.proofs.sides.side_size.Statement.{statement}
 use Rattle.weigh.proofs.sides.side_size.Tie as tie
 
 abbrev Inv-loop : tie.InvT-loop
-Inv-loop t c index literal n sum₀ i₀ sum i = (i ≤ n) × ((φ : Formula) → Filed φ t c index → literals (withLit literal (φ .clauses)) ≡ sum + literals (drop i (withLit literal (φ .clauses))))
+Inv-loop t c index literal n sum₀ i₀ sum i =
+    (i ≤ n) × ((φ : Formula) → Filed φ t c index → literals (withLit literal (φ .clauses)) ≡ sum + literals (drop i (withLit literal (φ .clauses))))
 
 abbrev μ-loop : tie.MeasureT-loop
 μ-loop t c index literal n sum₀ i₀ sum i = n - i
@@ -34,7 +34,8 @@ add-sum : tie.Need-add-sum Inv-loop μ-loop
 add-sum c =
     let l = c .before .before in
     let f = l .before .before .before .before .pre in
-    let k = size-turn (withLit _ (f .formula .clauses)) _ (l .loop .i) (l .loop .inv .1 (f .formula) (f .filed)) (omega (arith, l .before .count-with .ensures (f .formula) (f .filed .indexes))) _ (c .clause-with .ensures (f .formula) (f .filed)) in
+    let k = size-turn (withLit _ (f .formula .clauses)) _ (l .loop .i) (l .loop .inv .1 (f .formula) (f .filed))
+    (omega (arith, l .before .count-with .ensures (f .formula) (f .filed .indexes))) _ (c .clause-with .ensures (f .formula) (f .filed)) in
     omega (arith, size-room (f .filed) (l .before .before .before .before .args .literal))
 
 add-i : tie.Need-add-i Inv-loop μ-loop
@@ -45,8 +46,11 @@ loop-less c = search needs
 
 loop-again : tie.Need-loop-again Inv-loop μ-loop
 loop-again c =
-    let l = c .before .before in
-    (omega arith, λ φ f. size-turn (withLit _ (φ .clauses)) _ (l .loop .i) (l .loop .inv .1 φ f) (omega (arith, l .before .count-with .ensures φ (f .indexes))) _ (c .clause-with .ensures φ f))
+    let l = c .before .before in (
+      omega arith,
+      λ φ f. size-turn (withLit _ (φ .clauses)) _ (l .loop .i) (l .loop .inv .1 φ f)
+          (omega (arith, l .before .count-with .ensures φ (f .indexes))) _ (c .clause-with .ensures φ f),
+    )
 
 returns : tie.Need-returns Inv-loop μ-loop
 returns c =

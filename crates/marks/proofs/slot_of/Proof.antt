@@ -1,0 +1,66 @@
+-- The invariant: the literals that are left make the rest of the slot.
+-- Assumes nothing.
+use Prim.Native.Nat.{_-_, _≤_, _<_}
+use mathlib.Core.Path.{_≡_}
+use native.Mathlib.Omega.{arith}
+use lib.ListN.{length, drop}
+use borrow.Author.Needs.{needs}
+use Rattle.marks.specs.Marks.{slots, slotFrom, slotOf}
+use Rattle.marks.proofs.SlotLaws.{slot-start, slot-turn, slot-end}
+use Rattle.marks.proofs.slot_of.Statement.{statement}
+use Rattle.marks.proofs.slot_of.Tie as tie
+
+abbrev Inv-loop : tie.InvT-loop
+Inv-loop clause h₀ i₀ h i = (i ≤ length clause) × (h < slots) × (slotOf clause ≡ slotFrom h (drop i clause))
+
+abbrev μ-loop : tie.MeasureT-loop
+μ-loop clause h₀ i₀ h i = length clause - i
+
+loop-holds : tie.Need-loop-holds Inv-loop μ-loop
+loop-holds c = (omega arith, omega arith, slot-start _)
+
+mul-h : tie.Need-mul-h Inv-loop μ-loop
+mul-h c = omega arith
+
+mul-h-2 : tie.Need-mul-h-2 Inv-loop μ-loop
+mul-h-2 c = search needs
+
+shared-slice-read-h : tie.Need-shared-slice-read-h Inv-loop μ-loop
+shared-slice-read-h c = omega arith
+
+cast-h : tie.Need-cast-h Inv-loop μ-loop
+cast-h c = omega (arith, c .shared-slice-known .given (c .before .before .loop .i))
+
+add-h : tie.Need-add-h Inv-loop μ-loop
+add-h c = omega (arith, c .shared-slice-known .given (c .before .before .loop .i))
+
+add-i : tie.Need-add-i Inv-loop μ-loop
+add-i c = omega arith
+
+loop-less : tie.Need-loop-less Inv-loop μ-loop
+loop-less c = omega arith
+
+loop-again : tie.Need-loop-again Inv-loop μ-loop
+loop-again c =
+    let l = c .before .before .loop in
+    (omega arith, omega arith, slot-turn _ (l .i) (l .h) (l .inv .2) (c .before .loop-test .taken))
+
+returns : tie.Need-returns Inv-loop μ-loop
+returns c = let l = c .before .loop in slot-end _ (l .i) (l .h) (l .inv .2) (omega arith)
+
+pub slot-of-spec : {M : Type 1} → statement M
+slot-of-spec =
+    tie.close
+    (tie.spec
+    Inv-loop
+    μ-loop
+    loop-holds
+    mul-h
+    mul-h-2
+    shared-slice-read-h
+    cast-h
+    add-h
+    add-i
+    loop-less
+    loop-again
+    returns)

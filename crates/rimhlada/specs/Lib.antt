@@ -1,0 +1,4 @@
+pub mod Standing
+pub mod Stepping
+pub mod Running
+pub mod Replaying
