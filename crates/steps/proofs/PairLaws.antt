@@ -9,7 +9,7 @@ use lib.ListN.{length, getD, take, drop, drop-of-length-le}
 use lib.Seq.{drop-cons}
 use native.Mathlib.Numerals.{add-one}
 use Rattle.meaning.specs.Lists.{allOf, anyOf, keepIf, has, without}
-use Rattle.meaning.specs.Formula.{Formula, var, odd, plain, negated, opposite, isVar, mentions}
+use Rattle.meaning.specs.Formula.{Formula, var, odd, plain, negated, isVar, mentions}
 use Rattle.meaning.specs.Tidy.{buildOn}
 use Rattle.rules.specs.Eliminate.{withLit, resolventsOf, resolvents}
 use Rattle.table.specs.Table.{withRaw, Holds}
@@ -30,28 +30,23 @@ use Rattle.steps.proofs.BuildLaws.{built-of, built-there, Going, going-
 use Rattle.steps.proofs.KindLaws.{fed-drop}
 
 -- One pair --------------------------------------------------------------------------------------------------------
-module _ {ψ : Formula} {t : List ℕ} {d : Counts} (h : Holds ψ t d) (l : ℕ) (x y : List ℕ) (o : ℕ) (opp : o ≡ opposite l) (b : Bool) (is : b ≡ has o y) where
-  has-is : has (opposite l) y ≡ b
-  has-is = ap (λ (k : ℕ). has k y) (sym opp) ∙ sym is
-
-  pub pair-left : b ≡ false → Built (withRaws ψ (ofPair l (ψ .prefix) x y)) (d .second) (Done d) t
+module _ {ψ : Formula} {t : List ℕ} {d : Counts} (h : Holds ψ t d) (l m : ℕ) (x y : List ℕ) (b : Bool) (is : b ≡ has m y) where
+  pub pair-left : b ≡ false → Built (withRaws ψ (ofPair l m (ψ .prefix) x y)) (d .second) (Done d) t
   unfolding ofPair withRaws buildOn
-  pair-left n = rw (has-is, n) (built-there h)
+  pair-left n = rw (← is, n) (built-there h)
 
-  pub pair-taken : b ≡ true → (r : Pushed) (t′ : List ℕ) → Became ψ (withRaw ψ (fed (Drop l) (take (d .variables) t) 0 x ++ fed (Drop o) (take (d .variables) t) 0 y)) (d .second) r t′ → Built (withRaws ψ (ofPair l (ψ .prefix) x y)) (d .second) r t′
+  pub pair-taken : b ≡ true → (r : Pushed) (t′ : List ℕ) → Became ψ (withRaw ψ (fed (Drop l) (take (d .variables) t) 0 x ++ fed (Drop m) (take (d .variables) t) 0 y)) (d .second) r t′ → Built (withRaws ψ (ofPair l m (ψ .prefix) x y)) (d .second) r t′
   unfolding ofPair withRaws buildOn withRaw
   pair-taken n r t′ k =
-      rw (has-is, n)
-      (subst (λ (z : List ℕ). Built (withRaw ψ z) (d .second) r t′)
-      (ap (λ (p : List ℕ). fed (Drop l) p 0 x ++ fed (Drop o) p 0 y) (prefix-is h) ∙ ap (λ (k : ℕ). fed (Drop l) (ψ .prefix) 0 x ++ fed (Drop k) (ψ .prefix) 0 y) opp) (built-of k))
+      rw (← is, n) (subst (λ (p : List ℕ). Built (withRaw ψ (fed (Drop l) p 0 x ++ fed (Drop m) p 0 y)) (d .second) r t′) (prefix-is h) (built-of k))
 
 -- One clause ------------------------------------------------------------------------------------------------------
-module _ (l : ℕ) (q : List ℕ) (cs : List (List ℕ)) (x : List ℕ) (b : Bool) (is : b ≡ has l x) where
-  pub clause-left : {ψ : Formula} {t : List ℕ} {d : Counts} → Holds ψ t d → b ≡ false → Built (withRaws ψ (ofClause l q cs x)) (d .second) (Done d) t
+module _ (l m : ℕ) (q : List ℕ) (cs : List (List ℕ)) (x : List ℕ) (b : Bool) (is : b ≡ has l x) where
+  pub clause-left : {ψ : Formula} {t : List ℕ} {d : Counts} → Holds ψ t d → b ≡ false → Built (withRaws ψ (ofClause l m q cs x)) (d .second) (Done d) t
   unfolding ofClause withRaws buildOn
   clause-left {ψ} {t} {d} h n = rw (← is, n) (built-there h)
 
-  pub clause-taken : (ψ : Formula) (s : Bool) (r : Pushed) (t : List ℕ) → b ≡ true → Built (withRaws ψ (eachOf (ofPair l q x) cs)) s r t → Built (withRaws ψ (ofClause l q cs x)) s r t
+  pub clause-taken : (ψ : Formula) (s : Bool) (r : Pushed) (t : List ℕ) → b ≡ true → Built (withRaws ψ (eachOf (ofPair l m q x) cs)) s r t → Built (withRaws ψ (ofClause l m q cs x)) s r t
   unfolding ofClause
   clause-taken ψ s r t n k = rw (← is, n) k
 
@@ -73,39 +68,39 @@ module _ (f : List ℕ → List (List ℕ)) (ψ : Formula) (cs : List (List ℕ)
     pub each-full : r ≡ Full → Built (withRaws ψ (eachOf f cs)) b Full t′
     each-full = going-full ψ (eachOf f cs) (eachOf f (drop i cs)) b t e g some (eachOf f (drop (i + 1) cs)) split r t′ k
 
-pub pair-as : (l : ℕ) (x c y p q : List ℕ) → p ≡ q → c ≡ y → ofPair l p x c ≡ ofPair l q x y
-pair-as l x c y p q e d = ap (λ (z : List ℕ). ofPair l z x c) e ∙ ap (ofPair l q x) d
+pub pair-as : (l m : ℕ) (x c y p q : List ℕ) → p ≡ q → c ≡ y → ofPair l m p x c ≡ ofPair l m q x y
+pair-as l m x c y p q e d = ap (λ (z : List ℕ). ofPair l m z x c) e ∙ ap (ofPair l m q x) d
 
-pub clause-as : (l : ℕ) (cs : List (List ℕ)) (c y p q : List ℕ) → p ≡ q → c ≡ y → ofClause l p cs c ≡ ofClause l q cs y
-clause-as l cs c y p q e d = ap (λ (z : List ℕ). ofClause l z cs c) e ∙ ap (ofClause l q cs) d
+pub clause-as : (l m : ℕ) (cs : List (List ℕ)) (c y p q : List ℕ) → p ≡ q → c ≡ y → ofClause l m p cs c ≡ ofClause l m q cs y
+clause-as l m cs c y p q e d = ap (λ (z : List ℕ). ofClause l m z cs c) e ∙ ap (ofClause l m q cs) d
 
 -- They are document 01's resolvents -----------------------------------------------------------------------------------
 module _ (a : ℕ) (q : List ℕ) where
-  pairs-are : (x : List ℕ) (ys : List (List ℕ)) → allOf inRange x ≡ true → allOf (allOf inRange) ys ≡ true → eachOf (ofPair (plain a) q x) ys ≡ resolventsOf a x (withLit (negated a) ys)
+  pairs-are : (x : List ℕ) (ys : List (List ℕ)) → allOf inRange x ≡ true → allOf (allOf inRange) ys ≡ true → eachOf (ofPair (plain a) (negated a) q x) ys ≡ resolventsOf a x (withLit (negated a) ys)
   unfolding eachOf ofPair withLit keepIf resolventsOf allOf
   pairs-are x [] h k = refl
   pairs-are x (y ∷ ys) h k =
-      rw (opp-plain a, fed-drop (plain a) q 0 x h, fed-drop (negated a) q 0 y (and-l (allOf inRange y) (allOf (allOf inRange) ys) k))
+      rw (fed-drop (plain a) q 0 x h, fed-drop (negated a) q 0 y (and-l (allOf inRange y) (allOf (allOf inRange) ys) k))
       (go (has (negated a) y) (pairs-are x ys h (and-r (allOf inRange y) (allOf (allOf inRange) ys) k)))
     where
       rest : List (List ℕ)
-      rest = eachOf (ofPair (plain a) q x) ys
+      rest = eachOf (ofPair (plain a) (negated a) q x) ys
 
       go : (b : Bool) → rest ≡ resolventsOf a x (withLit (negated a) ys) → cond b ((without (plain a) x ++ without (negated a) y) ∷ []) [] ++ rest ≡ resolventsOf a x (cond b (y ∷ withLit (negated a) ys) (withLit (negated a) ys))
       go true ih = ap (λ (z : List (List ℕ)). (without (plain a) x ++ without (negated a) y) ∷ z) ih
       go false ih = ih
 
-  pub resolvents-are : (xs ys : List (List ℕ)) → allOf (allOf inRange) xs ≡ true → allOf (allOf inRange) ys ≡ true → eachOf (ofClause (plain a) q ys) xs ≡ resolvents a (withLit (plain a) xs) (withLit (negated a) ys)
+  pub resolvents-are : (xs ys : List (List ℕ)) → allOf (allOf inRange) xs ≡ true → allOf (allOf inRange) ys ≡ true → eachOf (ofClause (plain a) (negated a) q ys) xs ≡ resolvents a (withLit (plain a) xs) (withLit (negated a) ys)
   unfolding eachOf ofClause withLit keepIf resolvents allOf
   resolvents-are [] ys h k = refl
   resolvents-are (x ∷ xs) ys h k =
       go (has (plain a) x) (pairs-are x ys (and-l (allOf inRange x) (allOf (allOf inRange) xs) h) k) (resolvents-are xs ys (and-r (allOf inRange x) (allOf (allOf inRange) xs) h) k)
     where
       rest : List (List ℕ)
-      rest = eachOf (ofClause (plain a) q ys) xs
+      rest = eachOf (ofClause (plain a) (negated a) q ys) xs
 
-      go : (b : Bool) → eachOf (ofPair (plain a) q x) ys ≡ resolventsOf a x (withLit (negated a) ys) → rest ≡ resolvents a (withLit (plain a) xs) (withLit (negated a) ys)
-          → cond b (eachOf (ofPair (plain a) q x) ys) [] ++ rest ≡ resolvents a (cond b (x ∷ withLit (plain a) xs) (withLit (plain a) xs)) (withLit (negated a) ys)
+      go : (b : Bool) → eachOf (ofPair (plain a) (negated a) q x) ys ≡ resolventsOf a x (withLit (negated a) ys) → rest ≡ resolvents a (withLit (plain a) xs) (withLit (negated a) ys)
+          → cond b (eachOf (ofPair (plain a) (negated a) q x) ys) [] ++ rest ≡ resolvents a (cond b (x ∷ withLit (plain a) xs) (withLit (plain a) xs)) (withLit (negated a) ys)
       go true e ih = rw (e, ih)
       go false e ih = ih
 

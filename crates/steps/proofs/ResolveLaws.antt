@@ -1,6 +1,6 @@
 -- From the clauses without the variable and the resolvents to the result of resolving.
 -- Assumes nothing.
-use Prim.Native.Nat.{ℕ, _*_, _<_}
+use Prim.Native.Nat.{ℕ, _+_, _*_, _<_}
 use mathlib.Core.Path.{_≡_, refl, sym, ap, _∙_}
 use mathlib.Core.Bool.{Bool, true, not}
 use mathlib.Core.List.{List, [], _++_}
@@ -40,8 +40,8 @@ unfolding tidied build withRaws
 tidied-append p xs ys = sym (raws-append (record { prefix = p; clauses = [] }) xs ys)
 
 module _ {φ : Formula} {source : List ℕ} {c : Counts} {ranks : List ℕ} (g : Given φ source c ranks) (a : ℕ) where
-  whole : withRaws (tidied (remade (Free (2 * a)) Same a φ)) (eachOf (ofClause (2 * a) (tidied (remade (Free (2 * a)) Same a φ) .prefix) (φ .clauses)) (φ .clauses)) ≡ resultOf φ resolve a 0
-  unfolding resultOf rawOf resolveRaw remade tidied plain
+  whole : withRaws (tidied (remade (Free (2 * a)) Same a φ)) (eachOf (ofClause (2 * a) (2 * a + 1) (tidied (remade (Free (2 * a)) Same a φ) .prefix) (φ .clauses)) (φ .clauses)) ≡ resultOf φ resolve a 0
+  unfolding resultOf rawOf resolveRaw remade tidied plain negated
   whole =
       let r = in-range φ (g .well) (g .holds .fitting) in
       let q = dropVar a (φ .prefix) in
@@ -57,8 +57,8 @@ module _ {φ : Formula} {source : List ℕ} {c : Counts} {ranks : List ℕ} (g :
     pub resolve-full : r ≡ Full → (t′ : List ℕ) → Built (resultOf φ resolve a 0) s Full t′
     resolve-full e t′ =
         built-not (resultOf φ resolve a 0) s t′
-        (ap fits (sym whole) ∙ raws-not (tidied (remade (Free (2 * a)) Same a φ)) (eachOf (ofClause (2 * a) (tidied (remade (Free (2 * a)) Same a φ) .prefix) (φ .clauses)) (φ .clauses)) (built-full (tidied (remade (Free (2 * a)) Same a φ)) s r t k e))
+        (ap fits (sym whole) ∙ raws-not (tidied (remade (Free (2 * a)) Same a φ)) (eachOf (ofClause (2 * a) (2 * a + 1) (tidied (remade (Free (2 * a)) Same a φ) .prefix) (φ .clauses)) (φ .clauses)) (built-full (tidied (remade (Free (2 * a)) Same a φ)) s r t k e))
 
     pub resolve-done : (d : Counts) → r ≡ Done d → (r′ : Pushed) (t′ : List ℕ)
-        → Built (withRaws (tidied (remade (Free (2 * a)) Same a φ)) (eachOf (ofClause (2 * a) (tidied (remade (Free (2 * a)) Same a φ) .prefix) (φ .clauses)) (φ .clauses))) (d .second) r′ t′ → Built (resultOf φ resolve a 0) s r′ t′
+        → Built (withRaws (tidied (remade (Free (2 * a)) Same a φ)) (eachOf (ofClause (2 * a) (2 * a + 1) (tidied (remade (Free (2 * a)) Same a φ) .prefix) (φ .clauses)) (φ .clauses))) (d .second) r′ t′ → Built (resultOf φ resolve a 0) s r′ t′
     resolve-done d e r′ t′ m = rw (whole, built-second (tidied (remade (Free (2 * a)) Same a φ)) s r t k d e) at m

@@ -15,7 +15,6 @@ use crate::Turn;
 use crate::Which;
 use crate::rebuilding::rebuild;
 use crate::recipes::feed;
-use crate::recipes::other;
 use table::Counts;
 use table::Pending;
 use table::Pushed;
@@ -23,34 +22,34 @@ use table::clause_at;
 use table::close_clause;
 use table::contains;
 
-// The resolvent of x, which has the literal, and y, where y has its opposite.
+// The resolvent of x, which has the positive literal, and y, where y has the negative one.
 fn add_pair(
     target: &mut [u16],
     d: Counts,
     x: &[u16],
     y: &[u16],
-    literal: u16,
+    positive: u16,
+    negative: u16,
     scratch: &mut [u16],
     ranks: &[u16],
 ) -> Pushed
     requires { ⌜ Held (now target) d ⌝ }
     requires { ⌜ Ready (take (d .variables) (now target)) (now ranks) ⌝ }
     requires { ⌜ length (now scratch) ≡ 1023 ⌝ }
-    ensures { λ r. ⌜ ((ψ : Formula) → Holds ψ (now (target .entry)) d → Built (withRaws ψ (ofPair literal (ψ .prefix) (now (x .entry)) (now (y .entry)))) (d .second) r (now (target .exit))) ⌝ }
+    ensures { λ r. ⌜ ((ψ : Formula) → Holds ψ (now (target .entry)) d → Built (withRaws ψ (ofPair positive negative (ψ .prefix) (now (x .entry)) (now (y .entry)))) (d .second) r (now (target .exit))) ⌝ }
 {
-    let opposite = other(literal);
-    if contains(y, opposite) {
+    if contains(y, negative) {
         let n = d.variables;
         let p = feed(
             scratch,
             Pending::empty(),
             x,
             0,
-            Turn::Drop(literal),
+            Turn::Drop(positive),
             &target[..n],
             ranks,
         );
-        let w = feed(scratch, p, y, 0, Turn::Drop(opposite), &target[..n], ranks);
+        let w = feed(scratch, p, y, 0, Turn::Drop(negative), &target[..n], ranks);
         return close_clause(target, d, scratch, w, ranks);
     }
     Pushed::Done(d)
@@ -63,7 +62,8 @@ fn add_pairs(
     target: &mut [u16],
     d: Counts,
     x: &[u16],
-    literal: u16,
+    positive: u16,
+    negative: u16,
     scratch: &mut [u16],
     ranks: &[u16],
 ) -> Pushed
@@ -71,7 +71,7 @@ fn add_pairs(
     requires { ⌜ Held (now target) d ⌝ }
     requires { ⌜ Ready (take (d .variables) (now target)) (now ranks) ⌝ }
     requires { ⌜ length (now scratch) ≡ 1023 ⌝ }
-    ensures { λ r. ⌜ ((φ ψ : Formula) → Holds φ (now (source .entry)) c → Holds ψ (now (target .entry)) d → Built (withRaws ψ (eachOf (ofPair literal (ψ .prefix) (now (x .entry))) (φ .clauses))) (d .second) r (now (target .exit))) ⌝ }
+    ensures { λ r. ⌜ ((φ ψ : Formula) → Holds φ (now (source .entry)) c → Holds ψ (now (target .entry)) d → Built (withRaws ψ (eachOf (ofPair positive negative (ψ .prefix) (now (x .entry))) (φ .clauses))) (d .second) r (now (target .exit))) ⌝ }
 {
     let mut e = d;
     let mut i = 0;
@@ -81,7 +81,8 @@ fn add_pairs(
             e,
             x,
             clause_at(source, c, i),
-            literal,
+            positive,
+            negative,
             scratch,
             ranks,
         ) {
@@ -97,14 +98,15 @@ fn add_pairs(
     Pushed::Done(e)
 }
 
-// The resolvents of clause x, where it has the literal, and all clauses.
+// The resolvents of clause x, where it has the positive literal, and all clauses.
 fn add_clause_pairs(
     source: &[u16],
     c: Counts,
     target: &mut [u16],
     d: Counts,
     x: &[u16],
-    literal: u16,
+    positive: u16,
+    negative: u16,
     scratch: &mut [u16],
     ranks: &[u16],
 ) -> Pushed
@@ -112,10 +114,10 @@ fn add_clause_pairs(
     requires { ⌜ Held (now target) d ⌝ }
     requires { ⌜ Ready (take (d .variables) (now target)) (now ranks) ⌝ }
     requires { ⌜ length (now scratch) ≡ 1023 ⌝ }
-    ensures { λ r. ⌜ ((φ ψ : Formula) → Holds φ (now (source .entry)) c → Holds ψ (now (target .entry)) d → Built (withRaws ψ (ofClause literal (ψ .prefix) (φ .clauses) (now (x .entry)))) (d .second) r (now (target .exit))) ⌝ }
+    ensures { λ r. ⌜ ((φ ψ : Formula) → Holds φ (now (source .entry)) c → Holds ψ (now (target .entry)) d → Built (withRaws ψ (ofClause positive negative (ψ .prefix) (φ .clauses) (now (x .entry)))) (d .second) r (now (target .exit))) ⌝ }
 {
-    if contains(x, literal) {
-        return add_pairs(source, c, target, d, x, literal, scratch, ranks);
+    if contains(x, positive) {
+        return add_pairs(source, c, target, d, x, positive, negative, scratch, ranks);
     }
     Pushed::Done(d)
 }
@@ -126,7 +128,8 @@ fn add_resolvents(
     c: Counts,
     target: &mut [u16],
     d: Counts,
-    literal: u16,
+    positive: u16,
+    negative: u16,
     scratch: &mut [u16],
     ranks: &[u16],
 ) -> Pushed
@@ -134,7 +137,7 @@ fn add_resolvents(
     requires { ⌜ Held (now target) d ⌝ }
     requires { ⌜ Ready (take (d .variables) (now target)) (now ranks) ⌝ }
     requires { ⌜ length (now scratch) ≡ 1023 ⌝ }
-    ensures { λ r. ⌜ ((φ ψ : Formula) → Holds φ (now (source .entry)) c → Holds ψ (now (target .entry)) d → Built (withRaws ψ (eachOf (ofClause literal (ψ .prefix) (φ .clauses)) (φ .clauses))) (d .second) r (now (target .exit))) ⌝ }
+    ensures { λ r. ⌜ ((φ ψ : Formula) → Holds φ (now (source .entry)) c → Holds ψ (now (target .entry)) d → Built (withRaws ψ (eachOf (ofClause positive negative (ψ .prefix) (φ .clauses)) (φ .clauses))) (d .second) r (now (target .exit))) ⌝ }
 {
     let mut e = d;
     let mut i = 0;
@@ -145,7 +148,8 @@ fn add_resolvents(
             target,
             e,
             clause_at(source, c, i),
-            literal,
+            positive,
+            negative,
             scratch,
             ranks,
         ) {
@@ -177,17 +181,19 @@ pub fn resolve_into(
         return Pushed::Full;
     }
     let v = a as u16;
+    let positive = 2 * v;
+    let negative = 2 * v + 1;
     match rebuild(
         source,
         c,
         v,
         target,
-        Which::Free(2 * v),
+        Which::Free(positive),
         Turn::Same,
         scratch,
         ranks,
     ) {
-        Pushed::Done(d) => add_resolvents(source, c, target, d, 2 * v, scratch, ranks),
+        Pushed::Done(d) => add_resolvents(source, c, target, d, positive, negative, scratch, ranks),
         Pushed::Full => Pushed::Full,
     }
 }

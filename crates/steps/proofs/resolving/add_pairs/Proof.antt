@@ -16,10 +16,10 @@ use Rattle.steps.proofs.resolving.add_pairs.Statement.{statement}
 use Rattle.steps.proofs.resolving.add_pairs.Tie as tie
 
 abbrev Inv-loop : tie.InvT-loop
-Inv-loop source c target₀ x literal scratch₀ ranks e₀ i₀ target scratch e i = (i ≤ c .clauses) × (length target ≡ length target₀) × (length scratch ≡ length scratch₀) × ((φ ψ : Formula) → Holds φ source c → Holds ψ target₀ e₀ → Going ψ (eachOf (ofPair literal (ψ .prefix) x) (φ .clauses)) (eachOf (ofPair literal (ψ .prefix) x) (drop i (φ .clauses))) (e₀ .second) target e)
+Inv-loop source c target₀ x positive negative scratch₀ ranks e₀ i₀ target scratch e i = (i ≤ c .clauses) × (length target ≡ length target₀) × (length scratch ≡ length scratch₀) × ((φ ψ : Formula) → Holds φ source c → Holds ψ target₀ e₀ → Going ψ (eachOf (ofPair positive negative (ψ .prefix) x) (φ .clauses)) (eachOf (ofPair positive negative (ψ .prefix) x) (drop i (φ .clauses))) (e₀ .second) target e)
 
 abbrev μ-loop : tie.MeasureT-loop
-μ-loop source c target₀ x literal scratch₀ ranks e₀ i₀ target scratch e i = c .clauses - i
+μ-loop source c target₀ x positive negative scratch₀ ranks e₀ i₀ target scratch e i = c .clauses - i
 
 loop-holds : tie.Need-loop-holds Inv-loop μ-loop
 loop-holds c = (omega arith, refl, refl, λ φ ψ h k. going-start ψ _ _ _ k)
@@ -43,11 +43,11 @@ same-length : tie.Need-same-length Inv-loop μ-loop
 same-length c = let a = c .before .before .before .before .before .before in a .add-pair .kept .0 ∙ a .before .before .before .before .before .before .loop .inv .1
 
 same-length-2 : tie.Need-same-length-2 Inv-loop μ-loop
-same-length-2 c = let a = c .before .before .before .before .before .before in a .add-pair .kept .1 .1 .1 .1 .1 .0 ∙ a .before .before .before .before .before .before .loop .inv .2
+same-length-2 c = let a = c .before .before .before .before .before .before in a .add-pair .kept .1 .1 .1 .1 .1 .1 .0 ∙ a .before .before .before .before .before .before .loop .inv .2
 
 returns : tie.Need-returns Inv-loop μ-loop
 returns c = let a = c .before .before .before .before .before .before in let k = a .before .before in let l = k .before .before .before .before in
-    λ φ ψ h q. let g = l .loop .inv .3 φ ψ h q in each-full (ofPair _ (ψ .prefix) _) ψ (φ .clauses) _ _ _ (l .loop .i) g (omega (arith, count-clauses h, k .before .before .if1 .taken)) _ (pair-as _ _ _ _ _ _ (g .prefix) (k .clause-at .ensures φ h)) _ _ (a .add-pair .ensures (g .formula) (g .holds)) (c .enum-told .given .1)
+    λ φ ψ h q. let g = l .loop .inv .3 φ ψ h q in each-full (ofPair _ _ (ψ .prefix) _) ψ (φ .clauses) _ _ _ (l .loop .i) g (omega (arith, count-clauses h, k .before .before .if1 .taken)) _ (pair-as _ _ _ _ _ _ _ (g .prefix) (k .clause-at .ensures φ h)) _ _ (a .add-pair .ensures (g .formula) (g .holds)) (c .enum-told .given .1)
 
 add-i : tie.Need-add-i Inv-loop μ-loop
 add-i c = let l = c .before .before .before .before .before .before .before .before .before .before .before .before .before in let b = bounds (l .before .before .before .before .before .before .pre .0) in omega (arith, c .before .before .before .before .before .before .before .before .before .before .before .if1 .taken)
@@ -59,8 +59,8 @@ loop-again : tie.Need-loop-again Inv-loop μ-loop
 loop-again c = let a = c .before .before .before .before .before .before .before in let k = a .before .before in let l = k .before .before .before .before in (
   omega (arith, k .before .before .if1 .taken),
   a .add-pair .kept .0 ∙ l .loop .inv .1,
-  a .add-pair .kept .1 .1 .1 .1 .1 .0 ∙ l .loop .inv .2,
-  λ φ ψ h q. let g = l .loop .inv .3 φ ψ h q in each-next (ofPair _ (ψ .prefix) _) ψ (φ .clauses) _ _ _ (l .loop .i) g (omega (arith, count-clauses h, k .before .before .if1 .taken)) _ (pair-as _ _ _ _ _ _ (g .prefix) (k .clause-at .ensures φ h)) _ _ (a .add-pair .ensures (g .formula) (g .holds)) _ (c .before .next .given .1),
+  a .add-pair .kept .1 .1 .1 .1 .1 .1 .0 ∙ l .loop .inv .2,
+  λ φ ψ h q. let g = l .loop .inv .3 φ ψ h q in each-next (ofPair _ _ (ψ .prefix) _) ψ (φ .clauses) _ _ _ (l .loop .i) g (omega (arith, count-clauses h, k .before .before .if1 .taken)) _ (pair-as _ _ _ _ _ _ _ (g .prefix) (k .clause-at .ensures φ h)) _ _ (a .add-pair .ensures (g .formula) (g .holds)) _ (c .before .next .given .1),
 )
 
 same-length-3 : tie.Need-same-length-3 Inv-loop μ-loop
@@ -70,7 +70,7 @@ same-length-4 : tie.Need-same-length-4 Inv-loop μ-loop
 same-length-4 c = c .before .before .loop .inv .2
 
 returns-2 : tie.Need-returns-2 Inv-loop μ-loop
-returns-2 c = let l = c .before .before in λ φ ψ h k. each-end (ofPair _ (ψ .prefix) _) ψ (φ .clauses) _ _ _ (l .loop .i) (l .loop .inv .3 φ ψ h k) (omega (arith, count-clauses h, c .if1 .left))
+returns-2 c = let l = c .before .before in λ φ ψ h k. each-end (ofPair _ _ (ψ .prefix) _) ψ (φ .clauses) _ _ _ (l .loop .i) (l .loop .inv .3 φ ψ h k) (omega (arith, count-clauses h, c .if1 .left))
 
 pub add-pairs-spec : {M : Type 1} → statement M
 add-pairs-spec =

@@ -15,17 +15,20 @@ returns c = λ φ g p. resolve-never g _ p (c .if1 .taken)
 cast-v : tie.Need-cast-v
 cast-v c = search needs
 
-mul-t13 : tie.Need-mul-t13
-mul-t13 c = search needs
+mul-positive : tie.Need-mul-positive
+mul-positive c = search needs
+
+mul-negative : tie.Need-mul-negative
+mul-negative c = search needs
+
+add-negative : tie.Need-add-negative
+add-negative c = search needs
 
 rebuild-requires : tie.Need-rebuild-requires
 rebuild-requires c κs = begun-rebuild (c .before .before .before .before .before .before .before .before .pre)
 
 enum-known-d : tie.Need-enum-known-d
 enum-known-d c = search needs
-
-mul-add-resolvents : tie.Need-mul-add-resolvents
-mul-add-resolvents c = search needs
 
 add-resolvents-requires : tie.Need-add-resolvents-requires
 add-resolvents-requires c κs = let d = c .before .before .before .before in let k = d .before .before .before .before .before .before .before .before in let b = k .before .before .before .before .before .before .before .before .before .pre in (begun-held b, (held (built-done _ _ _ _ (k .rebuild .ensures .0 (b .formula) (b .given .holds)) _ (d .d .given .1)), (k .rebuild .ensures .1 _ (d .d .given .1), k .rebuild .kept .1 .1 .1 .1 .1 .1 .0 ∙ b .room)))
@@ -63,10 +66,11 @@ resolve-into-spec =
     (tie.spec
     returns
     cast-v
-    mul-t13
+    mul-positive
+    mul-negative
+    add-negative
     rebuild-requires
     enum-known-d
-    mul-add-resolvents
     add-resolvents-requires
     enum-told
     same-length
