@@ -2,5 +2,3 @@ pub mod SlotLaws
 pub mod WalkLaws
 pub mod PushLaws
 pub mod WentLaws
-pub mod RisingLaws
-pub mod PutLaws

@@ -1,6 +1,5 @@
 // Adding clauses to a table with marks beside it: a clause is compared only with those that have the same slot, so that adding
-// takes no longer the more clauses there are. The marks stand in a lent slice as long as a work table. Of a clause that comes
-// literal by literal, sorted.rt keeps the literals.
+// takes no longer the more clauses there are. The marks stand in a lent slice as long as a work table.
 ghost use mathlib.Core.Path.{_≡_};
 ghost use Prim.Native.Nat.{ℕ, _<_};
 ghost use mathlib.Core.Bool.{true};
@@ -20,10 +19,6 @@ use table::clause_at;
 use table::equal;
 use table::push_clause;
 use table::reduce_in;
-
-mod sorted;
-
-pub use sorted::put_sorted;
 
 // How many heads there are. The links come after them.
 const SLOTS: usize = 9209;

@@ -10,11 +10,11 @@ ghost use Rattle.table.specs.Table.{Holds, Held};
 ghost use Rattle.table.specs.Ranks.{ranksOf};
 ghost use Rattle.permits.specs.Choices.{replacementOf};
 use crate::Replacement;
-use crate::literals::other;
 use crate::ranks::place_of;
 use crate::units::literal_at;
 use table::Counts;
 use table::clause_at;
+use table::flip;
 
 // Whether both have two literals, each the other's negated.
 fn opposite_pair(x: &[u16], y: &[u16]) -> bool
@@ -26,10 +26,10 @@ fn opposite_pair(x: &[u16], y: &[u16]) -> bool
     if y.len() != 2 {
         return false;
     }
-    if y[0] != other(x[0]) {
+    if y[0] != flip(x[0]) {
         return false;
     }
-    y[1] == other(x[1])
+    y[1] == flip(x[1])
 }
 
 // Whether a comes before b, and they are such a pair.
@@ -57,11 +57,11 @@ pub fn replacement_of(t: &[u16], c: Counts, ranks: &[u16], a: usize) -> Replacem
     if place_of(ranks, (k / 2) as usize) < place_of(ranks, (l / 2) as usize) {
         return Replacement {
             old: l,
-            new: other(k),
+            new: flip(k),
         };
     }
     Replacement {
         old: k,
-        new: other(l),
+        new: flip(l),
     }
 }

@@ -2,7 +2,6 @@
 mod entries;
 mod equalities;
 mod expansion;
-mod literals;
 mod occurrences;
 mod pures;
 mod ranks;
@@ -16,7 +15,6 @@ pub use entries::read_entry;
 pub use equalities::equality_permitted;
 pub use equalities::replacement_of;
 pub use expansion::expand_permitted;
-pub use literals::other;
 pub use occurrences::occurs;
 pub use pures::pure_literal;
 pub use pures::pure_permitted;

@@ -9,11 +9,11 @@ ghost use Rattle.rules.specs.Simplify as rules;
 ghost use Rattle.table.specs.Table.{Holds, Held};
 ghost use Rattle.table.specs.Ranks.{ranksOf};
 ghost use Rattle.permits.specs.Choices.{pureTrue};
-use crate::literals::other;
 use crate::occurrences::occurs;
 use crate::ranks::in_prefix;
 use crate::ranks::is_universal;
 use table::Counts;
+use table::flip;
 
 // Whether both literals of a variable occur.
 fn both_occur(t: &[u16], c: Counts, a: usize) -> bool
@@ -67,7 +67,7 @@ pub fn pure_literal(t: &[u16], c: Counts, ranks: &[u16], a: usize) -> u16
     }
     let literal = lone_literal(t, c, a);
     if is_universal(ranks, a) {
-        return other(literal);
+        return flip(literal);
     }
     literal
 }

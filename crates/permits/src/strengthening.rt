@@ -12,11 +12,11 @@ ghost use Rattle.table.specs.Table.{Holds, Held};
 ghost use Rattle.table.specs.Ranks.{ranksOf, goodEntries};
 ghost use Rattle.permits.specs.Choices.{isOrIn, firstBy, strengtheningOf};
 use crate::Strengthens;
-use crate::literals::other;
 use crate::ranks::is_existential;
 use table::Counts;
 use table::clause_at;
 use table::contains;
+use table::flip;
 
 // Whether k is l, or in y.
 fn is_or_in(y: &[u16], l: u16, k: u16) -> bool
@@ -49,7 +49,7 @@ fn strengthens_by(x: &[u16], y: &[u16], ranks: &[u16], l: u16) -> bool
     ensures { λ r. ⌜ ((p : List ℕ) → now (ranks .entry) ≡ ranksOf p → goodEntries p ≡ true → r ≡ rules.strengthens p (now (x .entry)) (now (y .entry)) l) ⌝ }
 {
     if is_existential(ranks, (l / 2) as usize) {
-        if contains(y, other(l)) {
+        if contains(y, flip(l)) {
             return others_in(x, y, l);
         }
         return false;

@@ -7,7 +7,6 @@ ghost use Rattle.qdimacs.specs.Read.{State, complete, afterClause};
 ghost use Rattle.qdimacs.specs.declared.Move.the-variants.{Entry, Close};
 ghost use Rattle.reader.specs.Tracks.{fresh, inPhase, withM, withC, withEntry, withPending, withClosed, Stores, Tracks, Allowed, Entering, Entered, Ready, Steps};
 use marks::close_marked;
-use marks::put_sorted;
 use qdimacs::Move;
 use qdimacs::Phase;
 use table::Counts;
@@ -15,6 +14,7 @@ use table::Pending;
 use table::Pushed;
 use table::add_rank;
 use table::push_variable;
+use table::put_literal;
 
 // What is read so far: the phase, M, C, the clauses closed, as written; the counts of the table, the open clause.
 pub struct Reader {
@@ -224,7 +224,7 @@ pub fn apply(
         Move::Entry(entry) => Stepped::On(add_entry(r, entry, table, ranks)),
         Move::Literal(literal) => {
             let old = r.pending;
-            let pending = put_sorted(scratch, old, literal);
+            let pending = put_literal(scratch, old, literal);
             Stepped::On(r.with_pending(pending))
         }
         Move::Close => close(r, table, scratch, ranks, marks),

@@ -11,9 +11,9 @@ ghost use Rattle.search.specs.Candidates.{foundAs, firstFor};
 use crate::Found;
 use index::clauses_with;
 use permits::equality_permitted;
-use permits::other;
 use table::Counts;
 use table::clause_at;
+use table::flip;
 
 // The first of these clauses that is such a pair with clause a.
 fn first_equal(t: &[u16], c: Counts, a: usize, among: &[u16]) -> Found
@@ -42,7 +42,7 @@ fn equal_to(t: &[u16], c: Counts, index: &[u16], a: usize) -> Found
     if clause.len() != 2 {
         return Found::Nothing;
     }
-    let l = other(clause[0]);
+    let l = flip(clause[0]);
     first_equal(t, c, a, clauses_with(index, l))
 }
 

@@ -17,10 +17,10 @@ use crate::Found;
 use crate::rarity::rarest;
 use index::clauses_with;
 use permits::is_existential;
-use permits::other;
 use table::Counts;
 use table::clause_at;
 use table::contains;
+use table::flip;
 use table::part_of;
 
 // Of two answers for the same a, the one with the lower b.
@@ -45,7 +45,7 @@ fn mark_of(index: &[u16], x: &[u16], l: u16, rare: u16) -> u16
     requires { ⌜ has rare (now x) ≡ true ⌝ }
     ensures { λ r. ⌜ marks (now (x .entry)) l r ≡ true ⌝ }
 {
-    let opposite = other(l);
+    let opposite = flip(l);
     if l == rare {
         return opposite;
     }
@@ -65,7 +65,7 @@ fn is_strengthened(t: &[u16], c: Counts, x: &[u16], i: usize, b: usize) -> bool
         return false;
     }
     let y = clause_at(t, c, b);
-    if contains(y, other(x[i])) {
+    if contains(y, flip(x[i])) {
         if part_of(&x[..i], y) {
             let next = i + 1;
             return part_of(&x[next..], y);

@@ -11,7 +11,6 @@ ghost use Rattle.steps.specs.Given.{Given, Begun};
 use crate::Turn;
 use crate::Which;
 use crate::rebuilding::rebuild;
-use crate::recipes::other;
 use permits::Strengthens;
 use permits::pure_literal;
 use permits::replacement_of;
@@ -19,6 +18,7 @@ use permits::strengthening_of;
 use permits::unit_literal;
 use table::Counts;
 use table::Pushed;
+use table::flip;
 
 // The literal becomes true.
 fn assign_into(
@@ -38,7 +38,7 @@ fn assign_into(
         literal / 2,
         target,
         Which::Without(literal),
-        Turn::Drop(other(literal)),
+        Turn::Drop(flip(literal)),
         scratch,
         ranks,
     )
@@ -122,7 +122,7 @@ pub fn strengthen_into(
                 0,
                 target,
                 Which::All,
-                Turn::DropAt(b, other(l)),
+                Turn::DropAt(b, flip(l)),
                 scratch,
                 ranks,
             )

@@ -14,17 +14,8 @@ use crate::Which;
 use permits::place_of;
 use table::Pending;
 use table::contains;
+use table::flip;
 use table::put_literal;
-
-// The literal's opposite. Every number of 16 bits has one.
-pub fn other(literal: u16) -> u16
-    ensures { λ r. ⌜ r ≡ opposite literal ⌝ }
-{
-    if literal % 2 == 0 {
-        return literal + 1;
-    }
-    literal - 1
-}
 
 // Whether a variable of the clause stands behind a place.
 fn reaches_behind(clause: &[u16], ranks: &[u16], place: usize) -> bool
@@ -49,7 +40,7 @@ fn has_neither(clause: &[u16], literal: u16) -> bool
     if contains(clause, literal) {
         return false;
     }
-    !contains(clause, other(literal))
+    !contains(clause, flip(literal))
 }
 
 // Whether a variable of the clause stands behind a place, and the literal is not there.
@@ -95,8 +86,8 @@ fn replaced_in(literal: u16, old: u16, new: u16) -> u16
     if literal == old {
         return new;
     }
-    if literal == other(old) {
-        return other(new);
+    if literal == flip(old) {
+        return flip(new);
     }
     literal
 }

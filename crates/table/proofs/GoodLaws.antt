@@ -51,15 +51,6 @@ true-holds t c h =
       fitting = and-l (fits φ) (counted φ c && same t (tableOf φ)) h;
     }
 
--- the layout by places, with the numbers of the prefix in range
-pub layout-is : (t : List ℕ) (c : Counts) → (layoutOk t c && allOf (λ q. leb (var q) 1023) (take (c .variables) t)) ≡ layoutHolds t c
-layout-is t c =
-    iff (layoutOk t c && allOf (λ q. leb (var q) 1023) (take (c .variables) t)) (layoutHolds t c)
-    (λ h. holds-true (layout-holds t c (and-l (layoutOk t c) (allOf (λ q. leb (var q) 1023) (take (c .variables) t)) h) (and-r (layoutOk t c) (allOf (λ q. leb (var q) 1023) (take (c .variables) t)) h)))
-    (λ h.
-    let k = true-holds t c h in
-    and-i (layoutOk t c) (allOf (λ q. leb (var q) 1023) (take (c .variables) t)) (holds-layout k) (unfold decode in room-of (decode t c) (k .fitting) .numbers))
-
 -- The returns of well_formed ----------------------------------------------------------------------------------
 module _ (t : List ℕ) (c : Counts) where
   pub bad-layout : layoutOk t c ≡ false → false ≡ goodTable t c

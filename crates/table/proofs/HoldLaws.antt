@@ -109,6 +109,3 @@ counts-second ψ b d e = ap (λ (c : Counts). c .second) e
 pub empty-holds : (t : List ℕ) (c : Counts) (b : Bool) → t ≡ tableOf emptyFormula → c ≡ countsOf emptyFormula b → Holds emptyFormula t c
 unfolding emptyFormula fits allOf literals
 empty-holds t c b e q = record { table = e; counts = second-is emptyFormula b c q; fitting = refl }
-
-pub zeros-held : (c : Counts) (b : Bool) → c ≡ countsOf emptyFormula b → Held (replicate 11261 0) c
-zeros-held c b q = held (empty-holds (replicate 11261 0) c b table-empty q)

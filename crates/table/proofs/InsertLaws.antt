@@ -1,4 +1,4 @@
--- Inserting in place: the place, the shift and the store of src/insert.rt.
+-- Inserting in place: the shift and the store of src/insert.rt.
 -- Assumes nothing.
 use Prim.Native.Nat.{ℕ, zero, suc, _+_, _-_, _≤_, _<_}
 use mathlib.Core.Path.{_≡_, refl, sym, ap, _∙_}
@@ -15,26 +15,6 @@ use Rattle.meaning.specs.Lists.{anyOf, has}
 use Rattle.meaning.specs.Tidy.{insertNew}
 use Rattle.table.specs.Insert.{countBelow, shifted}
 use Rattle.meaning.proofs.Basics.{by-cases, or-l, or-r, eqb-false}
-
--- The place for x ---------------------------------------------------------------------------------------------
-module _ (s : List ℕ) (x i : ℕ) (inv : countBelow s x ≡ i + countBelow (drop i s) x) where
-  pub count-turn : i < length s → getD s i 0 < x → countBelow s x ≡ (i + 1) + countBelow (drop (i + 1) s) x
-  unfolding countBelow
-  count-turn h l =
-      let e : countBelow (drop i s) x ≡ suc (countBelow (drop (i + 1) s) x) = rw (add-one, drop-cons s i 0, lt-ltb (getD s i 0) x l) in
-      inv ∙ rw e (omega arith)
-
-  pub count-stop : i < length s → x ≤ getD s i 0 → i ≡ countBelow s x
-  unfolding countBelow
-  count-stop h l =
-      let e : countBelow (drop i s) x ≡ 0 = rw (drop-cons s i 0, le-ltb (getD s i 0) x l) in
-      omega arith
-
-  pub count-end : length s ≤ i → i ≡ countBelow s x
-  unfolding countBelow
-  count-end h =
-      let e : countBelow (drop i s) x ≡ 0 = rw (drop-of-length-le s {i = i} h) in
-      omega arith
 
 count-within : (s : List ℕ) (x : ℕ) → countBelow s x ≤ length s
 unfolding countBelow

@@ -10,6 +10,8 @@ pub mod ReduceLaws
 pub mod CompactLaws
 pub mod StayLaws
 pub mod InsertLaws
+pub mod RisingLaws
+pub mod PutLaws
 pub mod SortLaws
 pub mod PendingLaws
 pub mod DecodeLaws

@@ -20,9 +20,6 @@ front-next s d i h k =
     ∙ ap (λ (r : List ℕ). r ++ drop (suc i) d) (sym (take-suc s i 0 h))
     ∙ ap (λ (k : ℕ). take k s ++ drop k d) (sym (add-one i))
 
-pub front-length : (s d : List ℕ) (i : ℕ) → i ≤ length s → i ≤ length d → length (take i s ++ drop i d) ≡ length d
-front-length s d i h k = simp (length-append, length-take, length-drop) (omega arith)
-
 pub front-done : (s d : List ℕ) (i : ℕ) → i ≤ length s → length s ≤ i → take i s ++ drop i d ≡ s ++ drop (length s) d
 front-done s d i h k =
     let e : i ≡ length s = omega arith in

@@ -47,10 +47,6 @@ pends-empty s p q e = rw q (record { room = e; within = omega arith; range = ref
 pub pended : {raw s : List ℕ} {p : Pending} → Pends raw s p → Pended s p
 pended {raw} {s} {p} h = record { raw = raw; pends = h }
 
--- what a test for the literal's opposite x says
-pub opposite-is : (l x : ℕ) (s : List ℕ) (r b : Bool) → x ≡ opposite l → r ≡ has x s → r ≡ b → has (opposite l) s ≡ b
-opposite-is l x s r b e q k = ap (λ (y : ℕ). has y s) (sym e) ∙ sym q ∙ k
-
 -- One literal more --------------------------------------------------------------------------------------------
 module _ {raw s : List ℕ} {p : Pending} (h : Pends raw s p) where
   -- as long as no variable has both phases

@@ -3,6 +3,7 @@ pub mod Answer
 pub mod Ranks
 pub mod Ready
 pub mod Insert
+pub mod Rising
 pub mod Pending
 pub mod Layout
 pub mod Check

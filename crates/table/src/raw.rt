@@ -16,12 +16,12 @@ use crate::Counts;
 use crate::Pending;
 use crate::Pushed;
 use crate::clauses::add_clause;
-use crate::insert::insert_in;
+use crate::insert::insert_at;
+use crate::insert::place_in;
+use crate::insert::stands_at;
 use crate::reduce::reduce_in;
-use crate::tests::contains;
-use crate::tests::flip;
 
-// One literal more.
+// One literal more. Both literals of its variable have the same place, where they are not there.
 pub fn put_literal(scratch: &mut [u16], p: Pending, literal: u16) -> Pending
     requires { ⌜ Pended (now scratch) p ⌝ }
     requires { ⌜ (2 ≤ literal) × (literal < 2048) ⌝ }
@@ -31,17 +31,22 @@ pub fn put_literal(scratch: &mut [u16], p: Pending, literal: u16) -> Pending
         return p;
     }
     let n = p.size;
-    if contains(&scratch[..n], literal) {
-        return p;
-    }
-    let other = flip(literal);
-    if contains(&scratch[..n], other) {
+    let plain = literal - literal % 2;
+    let negated = plain + 1;
+    let at = place_in(&scratch[..n], plain);
+    if stands_at(&scratch[..n], at, plain) {
         return Pending {
             size: n,
-            both: true,
+            both: literal != plain,
         };
     }
-    insert_in(scratch, n, literal);
+    if stands_at(&scratch[..n], at, negated) {
+        return Pending {
+            size: n,
+            both: literal != negated,
+        };
+    }
+    insert_at(scratch, n, at, literal);
     Pending {
         size: n + 1,
         both: false,

@@ -48,9 +48,8 @@ pub fn part_of(a: &[u16], b: &[u16]) -> bool
     true
 }
 
-// The literal's opposite.
+// The literal's opposite. Every number of 16 bits has one.
 pub fn flip(literal: u16) -> u16
-    requires { ⌜ literal < 2048 ⌝ }
     ensures { λ r. ⌜ r ≡ opposite literal ⌝ }
 {
     if literal % 2 == 0 {

@@ -14,26 +14,26 @@ returns-2 c = pair-y _ _ (c .before .if1 .left) (c .if2 .taken)
 shared-slice-read-if3 : tie.Need-shared-slice-read-if3
 shared-slice-read-if3 c = search needs
 
-shared-slice-read-other : tie.Need-shared-slice-read-other
-shared-slice-read-other c = search needs
+shared-slice-read-flip : tie.Need-shared-slice-read-flip
+shared-slice-read-flip c = search needs
 
-other-requires : tie.Need-other-requires
-other-requires c κs = search needs
+flip-requires : tie.Need-flip-requires
+flip-requires c κs = search needs
 
 returns-3 : tie.Need-returns-3
-returns-3 c = let s = c .before .before .before .before in pair-first _ _ (s .before .if1 .left) (s .if2 .left) _ (c .before .other .ensures) (c .if3 .taken)
+returns-3 c = let s = c .before .before .before .before in pair-first _ _ (s .before .if1 .left) (s .if2 .left) _ (c .before .flip .ensures) (c .if3 .taken)
 
 shared-slice-read-result : tie.Need-shared-slice-read-result
 shared-slice-read-result c = search needs
 
-shared-slice-read-other-2 : tie.Need-shared-slice-read-other-2
-shared-slice-read-other-2 c = search needs
+shared-slice-read-flip-2 : tie.Need-shared-slice-read-flip-2
+shared-slice-read-flip-2 c = search needs
 
-other-requires-2 : tie.Need-other-requires-2
-other-requires-2 c κs = search needs
+flip-requires-2 : tie.Need-flip-requires-2
+flip-requires-2 c κs = search needs
 
 returns-4 : tie.Need-returns-4
-returns-4 c = let e = c .before .before .before in let s = e .before .before .before .before in pair-second _ _ (s .before .if1 .left) (s .if2 .left) _ _ (e .before .other .ensures) (e .if3 .left) (c .other2 .ensures)
+returns-4 c = let e = c .before .before .before in let s = e .before .before .before .before in pair-second _ _ (s .before .if1 .left) (s .if2 .left) _ _ (e .before .flip .ensures) (e .if3 .left) (c .flip2 .ensures)
 
 pub opposite-pair-spec : {M : Type 1} → statement M
 opposite-pair-spec =
@@ -42,10 +42,10 @@ opposite-pair-spec =
     returns
     returns-2
     shared-slice-read-if3
-    shared-slice-read-other
-    other-requires
+    shared-slice-read-flip
+    flip-requires
     returns-3
     shared-slice-read-result
-    shared-slice-read-other-2
-    other-requires-2
+    shared-slice-read-flip-2
+    flip-requires-2
     returns-4)

@@ -25,17 +25,17 @@ cast-place-of-2 c = search needs
 place-of-requires-2 : tie.Need-place-of-requires-2
 place-of-requires-2 c κs = search needs
 
-other-requires : tie.Need-other-requires
-other-requires c κs = search needs
+flip-requires : tie.Need-flip-requires
+flip-requires c κs = search needs
 
 returns : tie.Need-returns
-returns c = let b = c .before .before in let a = b .before in let m = a .before in λ φ h w e n ok. let g = entries-of φ w (h .fitting) in replace-l φ w _ n ok _ _ (m .before .literal-at .ensures φ h) (m .literal-at2 .ensures φ h) _ _ (a .place-of .ensures (φ .prefix) e g) (b .place-of2 .ensures (φ .prefix) e g) _ _ (c .before .if1 .taken) (c .other .ensures) refl
+returns c = let b = c .before .before in let a = b .before in let m = a .before in λ φ h w e n ok. let g = entries-of φ w (h .fitting) in replace-l φ w _ n ok _ _ (m .before .literal-at .ensures φ h) (m .literal-at2 .ensures φ h) _ _ (a .place-of .ensures (φ .prefix) e g) (b .place-of2 .ensures (φ .prefix) e g) _ _ (c .before .if1 .taken) (c .flip .ensures) refl
 
-other-requires-2 : tie.Need-other-requires-2
-other-requires-2 c κs = search needs
+flip-requires-2 : tie.Need-flip-requires-2
+flip-requires-2 c κs = search needs
 
 returns-2 : tie.Need-returns-2
-returns-2 c = let b = c .before .before in let a = b .before in let m = a .before in λ φ h w e n ok. let g = entries-of φ w (h .fitting) in replace-k φ w _ n ok _ _ (m .before .literal-at .ensures φ h) (m .literal-at2 .ensures φ h) _ _ (a .place-of .ensures (φ .prefix) e g) (b .place-of2 .ensures (φ .prefix) e g) _ _ (c .before .if1 .left) (c .other2 .ensures) refl
+returns-2 c = let b = c .before .before in let a = b .before in let m = a .before in λ φ h w e n ok. let g = entries-of φ w (h .fitting) in replace-k φ w _ n ok _ _ (m .before .literal-at .ensures φ h) (m .literal-at2 .ensures φ h) _ _ (a .place-of .ensures (φ .prefix) e g) (b .place-of2 .ensures (φ .prefix) e g) _ _ (c .before .if1 .left) (c .flip2 .ensures) refl
 
 pub replacement-of-spec : {M : Type 1} → statement M
 replacement-of-spec =
@@ -47,7 +47,7 @@ replacement-of-spec =
     place-of-requires
     cast-place-of-2
     place-of-requires-2
-    other-requires
+    flip-requires
     returns
-    other-requires-2
+    flip-requires-2
     returns-2)

@@ -17,14 +17,14 @@ lone-literal-requires c κs = search needs
 is-universal-requires : tie.Need-is-universal-requires
 is-universal-requires c κs = search needs
 
-other-requires : tie.Need-other-requires
-other-requires c κs = search needs
+flip-requires : tie.Need-flip-requires
+flip-requires c κs = search needs
 
 returns-2 : tie.Need-returns-2
-returns-2 c = let l = c .before .before .before in λ φ h w e k. true-forall φ _ _ _ _ (c .before .before .is-universal .ensures (φ .prefix) e (entries-of φ w (h .fitting))) (c .before .if2 .taken) (l .lone-literal .ensures φ h) (c .other .ensures)
+returns-2 c = let l = c .before .before .before in λ φ h w e k. true-forall φ _ _ _ _ (c .before .before .is-universal .ensures (φ .prefix) e (entries-of φ w (h .fitting))) (c .before .if2 .taken) (l .lone-literal .ensures φ h) (c .flip .ensures)
 
 returns-3 : tie.Need-returns-3
 returns-3 c = let l = c .before .before in λ φ h w e k. true-exists φ _ _ _ (c .before .is-universal .ensures (φ .prefix) e (entries-of φ w (h .fitting))) (c .if2 .left) (l .lone-literal .ensures φ h)
 
 pub pure-literal-spec : {M : Type 1} → statement M
-pure-literal-spec = tie.close (tie.spec returns lone-literal-requires is-universal-requires other-requires returns-2 returns-3)
+pure-literal-spec = tie.close (tie.spec returns lone-literal-requires is-universal-requires flip-requires returns-2 returns-3)

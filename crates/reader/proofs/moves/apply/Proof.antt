@@ -41,8 +41,8 @@ add-entry-requires c κs =
 enum-known-mv-6 : tie.Need-enum-known-mv-6
 enum-known-mv-6 c = search needs
 
-put-sorted-requires : tie.Need-put-sorted-requires
-put-sorted-requires c κs =
+put-literal-requires : tie.Need-put-literal-requires
+put-literal-requires c κs =
     let w = c .before .before .before .before .before .before .before .before .before .pre in
     (pended (w .tracks .pending), subst (Allowed (w .state)) (c .before .before .before .mv6 .given .1) (w .allowed))
 
@@ -92,7 +92,7 @@ returns-6 c =
     let d = c .before .before .before in
     let e = d .before .before .before .before .mv6 .given .1 in
     λ st at h a.
-    step-literal st _ _ _ _ _ h at _ _ e _ _ (c .with-pending .ensures) _ (d .put-sorted .ensures (st .pending) (h .pending))
+    step-literal st _ _ _ _ _ h at _ _ e _ _ (c .with-pending .ensures) _ (d .put-literal .ensures (st .pending) (h .pending))
 
 same-length-4 : tie.Need-same-length-4
 same-length-4 c = search needs
@@ -126,7 +126,7 @@ apply-spec =
     enum-known-mv-5
     add-entry-requires
     enum-known-mv-6
-    put-sorted-requires
+    put-literal-requires
     with-pending-requires
     enum-told
     close-requires

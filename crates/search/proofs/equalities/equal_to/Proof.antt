@@ -11,11 +11,11 @@ clause-at-requires c κs = search needs
 returns : tie.Need-returns
 returns c = λ φ h x. equal-none φ _ _ (c .before .clause-at .ensures φ h) (c .if1 .taken)
 
-shared-slice-read-other : tie.Need-shared-slice-read-other
-shared-slice-read-other c = search needs
+shared-slice-read-flip : tie.Need-shared-slice-read-flip
+shared-slice-read-flip c = search needs
 
-other-requires : tie.Need-other-requires
-other-requires c κs = search needs
+flip-requires : tie.Need-flip-requires
+flip-requires c κs = search needs
 
 clauses-with-requires : tie.Need-clauses-with-requires
 clauses-with-requires c κs = search needs
@@ -28,7 +28,7 @@ returns-2 c =
     let w = c .before in
     let o = w .before in
     λ φ h x. equal-among φ _ _ _ (w .clauses-with .ensures φ x) _ (o .before .before .before .clause-at .ensures φ h) _
-    (o .other .ensures) (c .first-equal .ensures φ h)
+    (o .flip .ensures) (c .first-equal .ensures φ h)
 
 pub equal-to-spec : {M : Type 1} → statement M
 equal-to-spec =
@@ -36,8 +36,8 @@ equal-to-spec =
     (tie.spec
     clause-at-requires
     returns
-    shared-slice-read-other
-    other-requires
+    shared-slice-read-flip
+    flip-requires
     clauses-with-requires
     first-equal-requires
     returns-2)

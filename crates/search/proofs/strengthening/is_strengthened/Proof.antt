@@ -14,14 +14,14 @@ returns c = λ φ h s. strong-absent h _ _ _ (c .if1 .taken)
 clause-at-requires : tie.Need-clause-at-requires
 clause-at-requires c κs = search needs
 
-mul-other : tie.Need-mul-other
-mul-other c = search needs
+mul-flip : tie.Need-mul-flip
+mul-flip c = search needs
 
-shared-slice-read-other : tie.Need-shared-slice-read-other
-shared-slice-read-other c = search needs
+shared-slice-read-flip : tie.Need-shared-slice-read-flip
+shared-slice-read-flip c = search needs
 
-other-requires : tie.Need-other-requires
-other-requires c κs = search needs
+flip-requires : tie.Need-flip-requires
+flip-requires c κs = search needs
 
 contains-requires : tie.Need-contains-requires
 contains-requires c κs = search needs
@@ -56,7 +56,7 @@ returns-2 c =
     let w = p .before .before in
     let m = w .before in
     let y = m .before .before .before in
-    λ φ h s. strong-back h _ _ _ (y .before .if1 .left) _ (y .clause-at .ensures φ h) s _ (m .before .other .ensures) _ (m .contains .ensures)
+    λ φ h s. strong-back h _ _ _ (y .before .if1 .left) _ (y .clause-at .ensures φ h) s _ (m .before .flip .ensures) _ (m .contains .ensures)
     (w .if2 .taken) (y .before .before .before .before .before .pre .1) _ (p .part-of .ensures)
     (c .before .before .if3 .taken) _ (c .part-of2 .ensures)
 
@@ -66,14 +66,14 @@ returns-3 c =
     let w = p .before .before in
     let m = w .before in
     let y = m .before .before .before in
-    λ φ h s. strong-front h _ _ _ (y .before .if1 .left) _ (y .clause-at .ensures φ h) s _ (m .before .other .ensures) _ (m .contains .ensures)
+    λ φ h s. strong-front h _ _ _ (y .before .if1 .left) _ (y .clause-at .ensures φ h) s _ (m .before .flip .ensures) _ (m .contains .ensures)
     (w .if2 .taken) (y .before .before .before .before .before .pre .1) _ (p .part-of .ensures) (c .if3 .left)
 
 returns-4 : tie.Need-returns-4
 returns-4 c =
     let m = c .before in
     let y = m .before .before .before in
-    λ φ h s. strong-not h _ _ _ (y .before .if1 .left) _ (y .clause-at .ensures φ h) s _ (m .before .other .ensures) _
+    λ φ h s. strong-not h _ _ _ (y .before .if1 .left) _ (y .clause-at .ensures φ h) s _ (m .before .flip .ensures) _
     (m .contains .ensures) (c .if2 .left)
 
 pub is-strengthened-spec : {M : Type 1} → statement M
@@ -82,9 +82,9 @@ is-strengthened-spec =
     (tie.spec
     returns
     clause-at-requires
-    mul-other
-    shared-slice-read-other
-    other-requires
+    mul-flip
+    shared-slice-read-flip
+    flip-requires
     contains-requires
     slice-aggregate-part-of
     part-of-requires

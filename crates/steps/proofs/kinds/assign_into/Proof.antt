@@ -6,8 +6,8 @@ use borrow.Author.Needs.{needs}
 use Rattle.steps.proofs.kinds.assign_into.Statement.{statement}
 use Rattle.steps.proofs.kinds.assign_into.Tie as tie
 
-other-requires : tie.Need-other-requires
-other-requires c κs = search needs
+flip-requires : tie.Need-flip-requires
+flip-requires c κs = search needs
 
 rebuild-requires : tie.Need-rebuild-requires
 rebuild-requires c κs = begun-rebuild (c .before .before .before .before .before .before .before .before .pre)
@@ -22,9 +22,9 @@ same-length-3 : tie.Need-same-length-3
 same-length-3 c = search needs
 
 returns : tie.Need-returns
-returns c = let k = c .before .before .before .before .before .before in λ φ g. assigned g _ _ _ refl (k .before .before .before .other .ensures) (k .rebuild .ensures .0 φ (g .holds))
+returns c = let k = c .before .before .before .before .before .before in λ φ g. assigned g _ _ _ refl (k .before .before .before .flip .ensures) (k .rebuild .ensures .0 φ (g .holds))
 
 pub assign-into-spec : {M : Type 1} → statement M
 assign-into-spec =
     tie.close
-    (tie.spec other-requires rebuild-requires same-length same-length-2 same-length-3 returns)
+    (tie.spec flip-requires rebuild-requires same-length same-length-2 same-length-3 returns)

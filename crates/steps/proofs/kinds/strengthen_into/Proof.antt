@@ -11,8 +11,8 @@ strengthening-of-requires c κs = let b = c .before .before .before .before .bef
 enum-known-l : tie.Need-enum-known-l
 enum-known-l c = search needs
 
-other-requires : tie.Need-other-requires
-other-requires c κs = search needs
+flip-requires : tie.Need-flip-requires
+flip-requires c κs = search needs
 
 rebuild-requires : tie.Need-rebuild-requires
 rebuild-requires c κs = begun-rebuild (c .before .before .before .before .before .before .before .before .before .before .before .before .before .pre)
@@ -30,7 +30,7 @@ same-length-3 : tie.Need-same-length-3
 same-length-3 c = search needs
 
 returns : tie.Need-returns
-returns c = let k = c .before .before .before .before .before .before in let o = k .before .before .before in let y = o .before .before .before .before .before in λ φ g p. strengthen-made φ _ _ p _ (y .strengthening-of .ensures φ (g .holds) (g .well) (g .ranked)) g _ _ (o .before .before .before .l .given .1) (o .other .ensures) (k .rebuild .ensures .0 φ (g .holds))
+returns c = let k = c .before .before .before .before .before .before in let o = k .before .before .before in let y = o .before .before .before .before .before in λ φ g p. strengthen-made φ _ _ p _ (y .strengthening-of .ensures φ (g .holds) (g .well) (g .ranked)) g _ _ (o .before .before .before .l .given .1) (o .flip .ensures) (k .rebuild .ensures .0 φ (g .holds))
 
 same-length-4 : tie.Need-same-length-4
 same-length-4 c = search needs
@@ -44,7 +44,7 @@ strengthen-into-spec =
     (tie.spec
     strengthening-of-requires
     enum-known-l
-    other-requires
+    flip-requires
     rebuild-requires
     enum-told
     same-length

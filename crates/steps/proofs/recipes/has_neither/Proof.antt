@@ -11,15 +11,15 @@ contains-requires c κs = search needs
 returns : tie.Need-returns
 returns c = neither-has _ _ _ (c .before .contains .ensures) (c .if1 .taken)
 
-other-requires : tie.Need-other-requires
-other-requires c κs = search needs
+flip-requires : tie.Need-flip-requires
+flip-requires c κs = search needs
 
 contains-requires-2 : tie.Need-contains-requires-2
 contains-requires-2 c κs = search needs
 
 returns-2 : tie.Need-returns-2
-returns-2 c = let k = c .before .before .before in neither-other _ _ _ _ _ (k .contains .ensures) (c .before .before .if1 .left) (c .before .other .ensures) (c .contains2 .ensures)
+returns-2 c = let k = c .before .before .before in neither-other _ _ _ _ _ (k .contains .ensures) (c .before .before .if1 .left) (c .before .flip .ensures) (c .contains2 .ensures)
 
 pub has-neither-spec : {M : Type 1} → statement M
 has-neither-spec =
-    tie.close (tie.spec contains-requires returns other-requires contains-requires-2 returns-2)
+    tie.close (tie.spec contains-requires returns flip-requires contains-requires-2 returns-2)

@@ -1,30 +1,49 @@
--- By what the scratch holds: both phases, the literal, its opposite, or neither.
+-- By what the scratch holds: both phases, the variable's plain literal, its negated one, or neither.
 -- Assumes nothing.
-use mathlib.Core.Path.{refl, sym, _∙_}
+use mathlib.Core.Path.{sym, _∙_}
 use native.Mathlib.Omega.{arith}
 use lib.Seq.{length-take-le}
 use borrow.Author.Needs.{needs}
-use Rattle.table.proofs.PendingLaws.{put-both, put-there, put-other, put-room, put-new, opposite-is}
+use Rattle.table.proofs.PendingLaws.{put-both}
+use Rattle.table.proofs.RisingLaws.{pends-rising, count-next}
+use Rattle.table.proofs.PutLaws.{place-of, put-plain, put-negated, put-out, put-within, put-more}
 use Rattle.table.proofs.raw.put_literal.Statement.{statement}
 use Rattle.table.proofs.raw.put_literal.Tie as tie
 
 returns : tie.Need-returns
 returns c =
-    let s = c .before .before in
-    λ raw h. put-both h _ (s .pre .1 .0) (s .pre .1 .1) (c .if1 .taken)
+    let w = c .before .before .pre .1 in
+    λ raw h. put-both h _ (w .0) (w .1) (c .if1 .taken)
 
-slice-reshare-prefix-contains : tie.Need-slice-reshare-prefix-contains
-slice-reshare-prefix-contains c =
-    let d = c .before .before .pre .0 .pends in
-    omega (arith, d .within, d .room)
+sub-plain : tie.Need-sub-plain
+sub-plain c = search needs
 
-slice-aggregate-contains : tie.Need-slice-aggregate-contains
-slice-aggregate-contains c =
+add-negated : tie.Need-add-negated
+add-negated c = search needs
+
+slice-reshare-prefix-place-in : tie.Need-slice-reshare-prefix-place-in
+slice-reshare-prefix-place-in c = search needs
+
+slice-aggregate-place-in : tie.Need-slice-aggregate-place-in
+slice-aggregate-place-in c =
     let d = c .before .before .before .pre .0 .pends in
     sym (length-take-le _ _ (omega (arith, d .within, d .room)))
 
-contains-requires : tie.Need-contains-requires
-contains-requires c κs = search needs
+place-in-requires : tie.Need-place-in-requires
+place-in-requires c κs = pends-rising (c .before .before .before .pre .0 .pends) (c .before .if1 .left)
+
+slice-reshare-prefix-stands-at : tie.Need-slice-reshare-prefix-stands-at
+slice-reshare-prefix-stands-at c = search needs
+
+slice-aggregate-stands-at : tie.Need-slice-aggregate-stands-at
+slice-aggregate-stands-at c =
+    let d = c .before .before .before .before .before .pre .0 .pends in
+    sym (length-take-le _ _ (omega (arith, d .within, d .room)))
+
+stands-at-requires : tie.Need-stands-at-requires
+stands-at-requires c κs =
+    let e = c .before .before .before in
+    (pends-rising (e .before .before .pre .0 .pends) (e .if1 .left), c .before .place-in .ensures)
 
 same-length : tie.Need-same-length
 same-length c = search needs
@@ -32,91 +51,92 @@ same-length c = search needs
 returns-2 : tie.Need-returns-2
 returns-2 c =
     let k = c .before in
-    let e = k .before .before in
-    let s = e .before .before in
-    λ raw h. put-there h _ (s .pre .1 .0) (s .pre .1 .1) (e .if1 .left) (sym (k .contains .ensures) ∙ c .if2 .taken)
+    let e = k .before .before .before .before in
+    let w = e .before .before .pre .1 in
+    λ raw h. put-plain h (e .if1 .left) _ (w .0) (w .1) (sym (k .stands-at .ensures) ∙ c .if2 .taken)
 
-flip-requires : tie.Need-flip-requires
-flip-requires c κs = search needs
+slice-reshare-prefix-stands-at-2 : tie.Need-slice-reshare-prefix-stands-at-2
+slice-reshare-prefix-stands-at-2 c = search needs
 
-slice-reshare-prefix-contains-2 : tie.Need-slice-reshare-prefix-contains-2
-slice-reshare-prefix-contains-2 c =
-    let d = c .before .before .before .before .before .before .pre .0 .pends in
-    omega (arith, d .within, d .room)
-
-slice-aggregate-contains-2 : tie.Need-slice-aggregate-contains-2
-slice-aggregate-contains-2 c =
-    let d = c .before .before .before .before .before .before .before .pre .0 .pends in
+slice-aggregate-stands-at-2 : tie.Need-slice-aggregate-stands-at-2
+slice-aggregate-stands-at-2 c =
+    let d = c .before .before .before .before .before .before .before .before .pre .0 .pends in
     sym (length-take-le _ _ (omega (arith, d .within, d .room)))
 
-contains-requires-2 : tie.Need-contains-requires-2
-contains-requires-2 c κs = search needs
+stands-at-requires-2 : tie.Need-stands-at-requires-2
+stands-at-requires-2 c κs =
+    let k = c .before .before in
+    let a = k .before .before in
+    let e = a .before .before in
+    let out = sym (k .stands-at .ensures) ∙ c .before .if2 .left in
+    (pends-rising (e .before .before .pre .0 .pends) (e .if1 .left), a .place-in .ensures ∙ sym (count-next _ _ out))
 
 same-length-2 : tie.Need-same-length-2
 same-length-2 c = search needs
 
 returns-3 : tie.Need-returns-3
 returns-3 c =
-    let f = c in
-    let g = f .before in
-    let o = g .before .before in
-    let k = o .before .before in
-    let e = k .before .before in
-    let s = e .before .before in
-    λ raw h. put-other h _ (s .pre .1 .0) (s .pre .1 .1) (e .if1 .left) _ refl (opposite-is _ _ _ _ _ (o .flip .ensures) (g .contains2 .ensures) (f .if3 .taken))
+    let g = c .before in
+    let e = g .before .before .before .before .before .before .before in
+    let w = e .before .before .pre .1 in
+    λ raw h. put-negated h (e .if1 .left) _ (w .0) (w .1) (sym (g .stands-at2 .ensures) ∙ c .if3 .taken)
 
-insert-in-requires : tie.Need-insert-in-requires
-insert-in-requires c κs =
+insert-at-requires : tie.Need-insert-at-requires
+insert-at-requires c κs =
     let f = c .before in
     let g = f .before in
-    let o = g .before .before in
-    let k = o .before .before in
-    let e = k .before .before in
-    let s = e .before .before in
-    let d = s .pre .0 .pends in
-    (omega (arith, d .room, put-room d _ (s .pre .1 .0) (s .pre .1 .1) (e .if1 .left) (sym (k .contains .ensures) ∙ o .before .if2 .left) (opposite-is _ _ _ _ _ (o .flip .ensures) (g .contains2 .ensures) (f .if3 .left))), (sym (k .contains .ensures) ∙ o .before .if2 .left))
+    let b = g .before .before in
+    let k = b .before in
+    let a = k .before .before in
+    let e = a .before .before in
+    let w = e .before .before .pre in
+    let out = sym (k .stands-at .ensures) ∙ b .if2 .left in
+    let free = sym (g .stands-at2 .ensures) ∙ f .if3 .left in
+    let d = w .0 .pends in
+    let o = e .if1 .left in
+    (put-within d o _ (w .1 .0) (w .1 .1) out free, put-out d o _ (w .1 .0) (w .1 .1) out free, place-of _ _ _ (a .place-in .ensures) out)
 
-add-t16 : tie.Need-add-t16
-add-t16 c =
-    let f = c .before .before .before .before in
-    let g = f .before in
-    let o = g .before .before in
-    let k = o .before .before in
-    let e = k .before .before in
-    let s = e .before .before in
-    let d = s .pre .0 .pends in
-    omega (arith, d .within)
+add-t23 : tie.Need-add-t23
+add-t23 c = search needs
 
 same-length-3 : tie.Need-same-length-3
 same-length-3 c = search needs
 
 returns-4 : tie.Need-returns-4
 returns-4 c =
-    let f = c .before .before .before .before in
+    let i = c .before .before in
+    let f = i .before .before in
     let g = f .before in
-    let o = g .before .before in
-    let k = o .before .before in
-    let e = k .before .before in
-    let s = e .before .before in
-    λ raw h. put-new h _ (s .pre .1 .0) (s .pre .1 .1) (e .if1 .left) (sym (k .contains .ensures) ∙ o .before .if2 .left) (opposite-is _ _ _ _ _ (o .flip .ensures) (g .contains2 .ensures) (f .if3 .left)) _ (c .before .before .insert-in .kept .0) (c .before .before .insert-in .ensures)
+    let b = g .before .before in
+    let k = b .before in
+    let a = k .before .before in
+    let e = a .before .before in
+    let w = e .before .before .pre in
+    let out = sym (k .stands-at .ensures) ∙ b .if2 .left in
+    let free = sym (g .stands-at2 .ensures) ∙ f .if3 .left in
+    λ raw h. put-more h (e .if1 .left) _ (w .1 .0) (w .1 .1) out free _ (i .insert-at .kept .0) (i .insert-at .ensures)
 
 pub put-literal-spec : {M : Type 1} → statement M
 put-literal-spec =
     tie.close
     (tie.spec
     returns
-    slice-reshare-prefix-contains
-    slice-aggregate-contains
-    contains-requires
+    sub-plain
+    add-negated
+    slice-reshare-prefix-place-in
+    slice-aggregate-place-in
+    place-in-requires
+    slice-reshare-prefix-stands-at
+    slice-aggregate-stands-at
+    stands-at-requires
     same-length
     returns-2
-    flip-requires
-    slice-reshare-prefix-contains-2
-    slice-aggregate-contains-2
-    contains-requires-2
+    slice-reshare-prefix-stands-at-2
+    slice-aggregate-stands-at-2
+    stands-at-requires-2
     same-length-2
     returns-3
-    insert-in-requires
-    add-t16
+    insert-at-requires
+    add-t23
     same-length-3
     returns-4)

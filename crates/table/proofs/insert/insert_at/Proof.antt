@@ -4,10 +4,10 @@ use Prim.Native.Nat.{_≤_}
 use mathlib.Core.Path.{_≡_, refl}
 use native.Mathlib.Omega.{arith}
 use lib.ListN.{length, length-set}
 use Rattle.table.specs.Insert.{shifted}
 use Rattle.table.proofs.InsertLaws.{place-within, shift-none, shift-turn, insert-done}
-use Rattle.marks.proofs.sorted.insert_at.Statement.{statement}
-use Rattle.marks.proofs.sorted.insert_at.Tie as tie
+use Rattle.table.proofs.insert.insert_at.Statement.{statement}
+use Rattle.table.proofs.insert.insert_at.Tie as tie
 
 abbrev Inv-loop : tie.InvT-loop
 Inv-loop s₀ m p x j₀ s j = (p ≤ j) × (j ≤ m) × (length s ≡ length s₀) × (s ≡ shifted s₀ j m)

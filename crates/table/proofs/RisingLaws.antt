@@ -11,12 +11,12 @@ use lib.ListN.{length, getD, take}
 use borrow.Author.Tests.{lt-ltb, le-ltb, ltb-true, ltb-false}
 use Rattle.meaning.specs.Lists.{allOf, anyOf, has}
 use Rattle.meaning.specs.Tidy.{insertNew, ascending}
 use Rattle.table.specs.Insert.{countBelow}
 use Rattle.table.specs.Pending.{Pends}
 use Rattle.table.specs.declared.Pending.{Pending}
 use Rattle.meaning.proofs.Basics.{by-cases, iff, false-of, and-l, and-r, and-i, or-l, or-r, or-il, or-ir, or-elim, eqb-self, eqb-true, eqb-eq, eqb-false}
 use Rattle.meaning.proofs.Lists.{all-le, all-has}
-use Rattle.marks.specs.Rising.{rising}
+use Rattle.table.specs.Rising.{rising}
 
 -- Insertion ----------------------------------------------------------------------------------------------------
 insert-above : (j l : ℕ) (c : List ℕ) → j < l → allOf (λ k. ltb j k) c ≡ true → allOf (λ k. ltb j k) (insertNew l c) ≡ true

@@ -1,9 +1,9 @@
 -- By what stands at the place, if anything does.
 -- Assumes nothing.
 use borrow.Author.Needs.{needs}
-use Rattle.marks.proofs.RisingLaws.{stands-here, stands-past}
-use Rattle.marks.proofs.sorted.stands_at.Statement.{statement}
-use Rattle.marks.proofs.sorted.stands_at.Tie as tie
+use Rattle.table.proofs.RisingLaws.{stands-here, stands-past}
+use Rattle.table.proofs.insert.stands_at.Statement.{statement}
+use Rattle.table.proofs.insert.stands_at.Tie as tie
 
 mul-result : tie.Need-mul-result
 mul-result c = search needs

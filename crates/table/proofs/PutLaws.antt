@@ -11,13 +11,13 @@ use lib.ListN.{length, take}
 use Rattle.meaning.specs.Lists.{has}
 use Rattle.meaning.specs.Formula.{opposite}
 use Rattle.meaning.specs.Tidy.{insertNew}
 use Rattle.table.specs.Insert.{countBelow}
 use Rattle.table.specs.Pending.{Pends}
 use Rattle.table.specs.declared.Pending.{Pending}
 use Rattle.meaning.proofs.Basics.{by-cases, eqb-true, eqb-false, eqb-self, eqb-ne}
 use Rattle.table.proofs.TestLaws.{flip-even, flip-odd}
 use Rattle.table.proofs.PendingLaws.{put-there, put-other, put-room, put-new}
-use Rattle.marks.proofs.RisingLaws.{count-next}
+use Rattle.table.proofs.RisingLaws.{count-next}
 
 -- a literal is one of the two, and its opposite is the other
 pub by-phase {ℓ} : {A : Type ℓ} (l : ℕ) → (l ≡ l - l % 2 → l - l % 2 + 1 ≡ opposite l → A) → (l ≡ l - l % 2 + 1 → l - l % 2 ≡ opposite l → A) → A

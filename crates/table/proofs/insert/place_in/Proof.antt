@@ -2,9 +2,9 @@
 -- Assumes nothing.
 use Prim.Native.Nat.{_-_}
 use native.Mathlib.Omega.{arith}
-use Rattle.marks.proofs.RisingLaws.{Between, between-all, between-up, between-down, between-end}
-use Rattle.marks.proofs.sorted.place_in.Statement.{statement}
-use Rattle.marks.proofs.sorted.place_in.Tie as tie
+use Rattle.table.proofs.RisingLaws.{Between, between-all, between-up, between-down, between-end}
+use Rattle.table.proofs.insert.place_in.Statement.{statement}
+use Rattle.table.proofs.insert.place_in.Tie as tie
 
 abbrev Inv-loop : tie.InvT-loop
 Inv-loop s x low₀ high₀ low high = Between s x low high
