@@ -4,3 +4,7 @@ pub mod Indices
 pub mod Far
 pub mod Between
 pub mod Nexts
+pub mod Limits
+pub mod Left
+pub mod Reasons
+pub mod Finished

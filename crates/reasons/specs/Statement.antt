@@ -128,3 +128,14 @@ Says E φ v (notLighter m n) = NotLighter φ v m n
 Says E φ v (between e w) = Between φ v e w
 Says E φ v (tooHeavy m n) = TooHeavy E φ v m n
 Says E φ v (overLimit l) = OverLimit E φ v l
+
+-- the reason is neither a verdict nor an entry: it names what keeps the variable
+unfoldable pub keeps : Reason → Bool
+keeps (verdict b) = false
+keeps (nextEntry e) = false
+keeps (ownEntry e) = false
+keeps (tooFarRight i y u) = true
+keeps (notLighter m n) = true
+keeps (between e w) = true
+keeps (tooHeavy m n) = true
+keeps (overLimit l) = true
