@@ -1,12 +1,10 @@
 -- The first universal and the leftmost existential right of a variable are what their names say, and the only ones. Assumes nothing.
-use mathlib.Core.Path.{_≡_, sym, _∙_, ap, subst}
+use mathlib.Core.Path.{_≡_, ap, subst}
 use Prim.Native.Nat.{ℕ, _+_, _*_}
 use mathlib.Core.Bool.{Bool, true, false, not}
-use mathlib.Core.List.{List}
-use lib.Dec.{eqb}
 use Rattle.meaning.specs.Lists.{anyOf, has, firstOf}
-use Rattle.meaning.specs.Formula.{Formula, var, odd, mentions, existential, universal, rightOf}
-use Rattle.meaning.specs.WellFormed.{goodPrefix, wellFormed}
+use Rattle.meaning.specs.Formula.{Formula, var, odd, existential, universal, rightOf}
+use Rattle.meaning.specs.WellFormed.{wellFormed}
 use Rattle.rules.proofs.Ahead.{leftOf}
 use Rattle.reasons.specs.Reason.{universalAfter, existentialAfter}
 use Rattle.reasons.specs.Statement.{FirstUniversal, LeftmostExistential}
@@ -15,7 +13,7 @@ use Rattle.meaning.proofs.Lists.{any-has, first-passes, first-in}
 use Rattle.meaning.proofs.Literals.{var-plain, var-negated, odd-plain, odd-negated, plain-is, negated-is}
 use Rattle.meaning.proofs.Prefix.{exists-mentioned, forall-mentioned}
 use Rattle.meaning.proofs.Parts.{good-of}
-use Rattle.reasons.proofs.Places.{same-place, entry-mentioned, Part, right-part, part-good, part-any, part-right, part-entry, first-left}
+use Rattle.reasons.proofs.Places.{same-place, entry-mentioned, right-part, part-good, part-any, part-right, part-entry, first-left}
 
 module _ (φ : Formula) (w : wellFormed φ ≡ true) where
   -- the entry q stands right of x

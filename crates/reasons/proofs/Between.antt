@@ -1,19 +1,19 @@
 -- A universal that may not be expanded: the existential and the universal that are named block it, and are the only ones that the
 -- statement allows. Assumes nothing.
-use mathlib.Core.Path.{_≡_, refl, sym, _∙_, ap}
+use mathlib.Core.Path.{_≡_, refl, _∙_, ap}
 use Prim.Native.Nat.{ℕ, _*_}
-use mathlib.Core.Bool.{Bool, true, false, _&&_, _||_, not, cond, true≢false, false≢true}
+use mathlib.Core.Bool.{Bool, true, false, _||_, not, cond, true≢false, false≢true}
 use mathlib.Core.List.{List, [], _∷_}
 use lib.Dec.{eqb}
-use Rattle.meaning.specs.Lists.{allOf, anyOf, has, firstOf}
-use Rattle.meaning.specs.Formula.{Formula, var, odd, isVar, mentions, existential, universal, rightOf}
+use Rattle.meaning.specs.Lists.{anyOf, has, firstOf}
+use Rattle.meaning.specs.Formula.{Formula, var, odd, isVar, existential, universal, rightOf}
 use Rattle.meaning.specs.WellFormed.{goodPrefix, wellFormed}
 use Rattle.rules.specs.Eliminate.{allExist, universalsFirst, expandPermitted}
 use Rattle.rules.specs.Entry.{expand}
 use Rattle.rules.specs.Step.{permitted}
 use Rattle.rules.proofs.Ahead.{leftOf}
 use Rattle.reasons.specs.Reason.{universalAfter, existentialAfter}
-use Rattle.reasons.specs.Statement.{Quiet, LeftmostExistential, FirstUniversal, Between}
+use Rattle.reasons.specs.Statement.{Quiet, LeftmostExistential, Between}
 use Rattle.meaning.proofs.Basics.{by-cases, clash, false-of, and-r, or-elim, eqb-true, eqb-ne, eqb-self}
 use Rattle.meaning.proofs.Lists.{any-none, none-any, first-in}
 use Rattle.meaning.proofs.Literals.{var-plain, odd-plain}
@@ -90,7 +90,7 @@ module _ (φ : Formula) (w : wellFormed φ ≡ true) (u : ℕ) where
     pub forall : universalAfter φ e ≡ v
 
   pub between-only : (e v : ℕ) → Between φ u e v → OnlyBetween e v
-  between-only e v s = record { forbidden = unfold permitted expandPermitted in false-of _ (λ h. clash after (none (and-r (universal (φ .prefix) u) _ h))); exists = existential-is φ w u e (s .leftmost); forall = universal-is φ w e v (s .first-universal) }
+  between-only e v s = record { forbidden = forbidden; exists = existential-is φ w u e (s .leftmost); forall = universal-is φ w e v (s .first-universal) }
     where
       after : anyOf odd (rightOf e (φ .prefix)) ≡ true
       after = some-universal φ w e v (s .first-universal)
@@ -100,3 +100,6 @@ module _ (φ : Formula) (w : wellFormed φ ≡ true) (u : ℕ) where
 
       none : universalsFirst (rightOf u (φ .prefix)) ≡ true → anyOf odd (rightOf e (φ .prefix)) ≡ false
       none h = ap (anyOf odd) (right-right e (s .leftmost .right)) ∙ (rw (var-plain e) at (all-first (rightOf u (φ .prefix)) right-good h (2 * e) here (odd-plain e)))
+
+      forbidden : permitted φ expand u 0 ≡ false
+      forbidden = unfold permitted expandPermitted in false-of _ (λ h. clash after (none (and-r (universal (φ .prefix) u) _ h)))

@@ -4,11 +4,11 @@ use mathlib.Core.Path.{_≡_, refl, sym, _∙_, ap, ap₂}
 use Prim.Native.Nat.{ℕ, _<_}
 use native.Mathlib.Omega.{arith}
 use mathlib.Core.Bool.{Bool, true, false, _&&_, _||_, not, cond, false≢true}
-use mathlib.Core.List.{List, [], _∷_, _++_, append-assoc}
+use mathlib.Core.List.{List, [], _∷_}
 use lib.Dec.{eqb}
 use lib.ListN.{length}
 use borrow.Author.Tests.{lt-ltb}
-use Rattle.meaning.specs.Lists.{allOf, anyOf, keepIf, has, firstOf}
+use Rattle.meaning.specs.Lists.{allOf, anyOf, has, firstOf}
 use Rattle.meaning.specs.Formula.{Formula, var, odd, plain, negated, isVar, mentions, existential, rightOf}
 use Rattle.meaning.specs.WellFormed.{bound, goodPrefix, wellFormed}
 use Rattle.rules.specs.Simplify.{clauseAt, isClause}
@@ -17,11 +17,11 @@ use Rattle.rules.specs.Entry.{resolve}
 use Rattle.rules.specs.Step.{permitted}
 use Rattle.rules.proofs.Ahead.{leftOf}
 use Rattle.reasons.specs.Reason.{universalAfter, farPart, reachesFar, firstIndex, farClause, leftmostIn, farVariable}
-use Rattle.reasons.specs.Statement.{Quiet, FirstUniversal, TooFarRight}
-use Rattle.meaning.proofs.Basics.{by-cases, clash, false-of, and-l, and-r, and-i, or-l, or-r, not-true, not-false, eqb-true}
-use Rattle.meaning.proofs.Lists.{all-keep, any-none, none-any, any-has, all-has, all-of-has, any-witness, first-passes, first-in}
+use Rattle.reasons.specs.Statement.{Quiet, TooFarRight}
+use Rattle.meaning.proofs.Basics.{by-cases, clash, false-of, and-l, and-r, and-i, or-l, or-r, or-il, or-ir, not-true, not-false, eqb-true, eqb-eq}
+use Rattle.meaning.proofs.Lists.{all-keep, any-none, all-has, all-of-has, any-witness, first-passes, first-in}
 use Rattle.meaning.proofs.Literals.{var-of-plain, var-of-negated, opp-plain}
-use Rattle.meaning.proofs.Prefix.{mentioned-all}
+use Rattle.meaning.proofs.Prefix.{mentioned-all, forall-mentioned}
 use Rattle.meaning.proofs.Parts.{good-of, bound-of}
 use Rattle.rules.proofs.Permitted.{tidy-at}
 use Rattle.rules.proofs.Place.{meet}
@@ -145,10 +145,12 @@ module _ (φ : Formula) (w : wellFormed φ ≡ true) (x : ℕ) where
     unfolding leftmostIn
     left-has = first-passes (λ q. mentions (clauseAt (φ .clauses) i) (var q)) (farPart φ x) met
 
+    left-in : mentions (farPart φ x) (leftmostIn (farPart φ x) (clauseAt (φ .clauses) i)) ≡ true
+    unfolding leftmostIn
+    left-in = entry-mentioned _ _ (first-in (λ q. mentions (clauseAt (φ .clauses) i) (var q)) (farPart φ x) met)
+
     left-far : leftOf φ (leftmostIn (farPart φ x) (clauseAt (φ .clauses) i)) (universalAfter φ x) ≡ false
-    left-far =
-        let m : mentions (farPart φ x) (leftmostIn (farPart φ x) (clauseAt (φ .clauses) i)) ≡ true = unfold leftmostIn in (entry-mentioned _ _ (first-in (λ q. mentions (clauseAt (φ .clauses) i) (var q)) (farPart φ x) met)) in
-        not-true _ (sym (far-side (far-some _ r) _ (clause-bound i _ h left-has)) ∙ m)
+    left-far = not-true _ (sym (far-side (far-some _ r) _ (clause-bound i _ h left-has)) ∙ left-in)
 
     left-first : (z : ℕ) → mentions (clauseAt (φ .clauses) i) z ≡ true → leftOf φ z (universalAfter φ x) ≡ false
         → leftOf φ z (leftmostIn (farPart φ x) (clauseAt (φ .clauses) i)) ≡ false
@@ -240,8 +242,21 @@ module _ (φ : Formula) (w : wellFormed φ ≡ true) (x : ℕ) where
       variable = unfold farVariable in (ap (λ (j : ℕ). leftmostIn (farPart φ x) (clauseAt (φ .clauses) j)) clause ∙ same)
         where
           same : leftmostIn (farPart φ x) (clauseAt (φ .clauses) i) ≡ y
-          same = unfold leftOf in same-place (φ .prefix) (leftmostIn (farPart φ x) (clauseAt (φ .clauses) i)) y (clause-bound i _ (s .there) (left-has i (s .there) reaches)) (clause-bound i y (s .there) (s .has-y)) (s .leftmost _ (left-has i (s .there) reaches) (rw u-is at (left-far i (s .there) reaches))) (left-first i (s .there) reaches y (s .has-y) (ap (leftOf φ y) u-is ∙ s .far))
+          same =
+              unfold leftOf in same-place (φ .prefix) (leftmostIn (farPart φ x) (clauseAt (φ .clauses) i)) y
+              (clause-bound i _ (s .there) (left-has i (s .there) reaches))
+              (clause-bound i y (s .there) (s .has-y))
+              (s .leftmost _ (left-has i (s .there) reaches) (rw u-is at (left-far i (s .there) reaches)))
+              (left-first i (s .there) reaches y (s .has-y) (ap (leftOf φ y) u-is ∙ s .far))
 
       and-false : (b : Bool) → (b && false) ≡ false
       and-false true = refl
       and-false false = refl
+
+  -- in words that say where y stands: it is u, or right of it
+  pub far-stands : (i y u : ℕ) → TooFarRight φ x i y u → (eqb y u || leftOf φ u y) ≡ true
+  unfolding leftOf
+  far-stands i y u s =
+      by-cases (mentions (rightOf u (φ .prefix)) y)
+      (λ h. or-ir (eqb y u) _ h)
+      (λ h. or-il _ _ (eqb-eq (same-place (φ .prefix) y u (clause-bound i y (s .there) (s .has-y)) (forall-mentioned (φ .prefix) u (s .first-universal .forall)) (s .far) h)))

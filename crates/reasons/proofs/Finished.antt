@@ -1,24 +1,23 @@
 -- Reasons where a run ended: in a FINISHED or OUT OF ROOM formula each names what keeps the variable; OUT OF ROOM is where one of them
 -- is a limit. And what the first two reasons are: a verdict is the truth, a next entry is what the run logs. Assumes nothing.
-use mathlib.Core.Path.{_≡_, refl, sym, _∙_, ap, subst}
+use mathlib.Core.Path.{_≡_, refl, _∙_, ap, subst}
 use Prim.Native.Nat.{ℕ, suc, _≤_}
 use native.Mathlib.Omega.{arith}
-use mathlib.Core.Bool.{Bool, true, false, cond, not, _&&_, _||_, true≢false, false≢true}
+use mathlib.Core.Bool.{Bool, true, false, cond, not, _&&_, false≢true}
 use mathlib.Core.List.{List, [], _∷_}
 use Rattle.meaning.specs.Formula.{Formula, mentions, universal}
 use Rattle.meaning.specs.Game.{truth, isTrue, noClause}
 use Rattle.meaning.specs.WellFormed.{wellFormed, fits, weight}
 use Rattle.rules.specs.Entry.{Kind, unit, pure, subsume, strengthen, equality, resolve, expand, code, usesB, entry, Call, bad, call, readEntry}
 use Rattle.rules.specs.Step.{permitted, resultOf}
-use Rattle.rules.specs.Choice.{costly, light, wanted, allowedCall, blockedCall, onCall, allowed, blocked, Choice, takeStep, stuck, choose}
-use Rattle.rules.specs.Run.{End, isTRUE, isFALSE, finished, outOfRoom, ended, Next, over, step, nextOf, next, logged, onward, runFrom}
-use Rattle.reasons.specs.Reason.{Limit, Reason, verdict, nextEntry, ownEntry, tooFarRight, notLighter, between, tooHeavy, overLimit, firstLimit, farClause, farVariable, universalAfter, existentialAfter, whyExistential, whyUniversal, whyLeft, reasonAt, reasonOf}
+use Rattle.rules.specs.Choice.{costly, light, wanted, allowedCall, blockedCall, onCall, allowed, blocked, stuck, choose}
+use Rattle.rules.specs.Run.{End, isTRUE, isFALSE, finished, outOfRoom, ended, over, step, nextOf, next, logged, onward, runFrom}
+use Rattle.reasons.specs.Reason.{Limit, Reason, overLimit, firstLimit, whyExistential, whyUniversal, whyLeft, reasonAt, reasonOf}
 use Rattle.reasons.specs.Statement.{Verdict, NextEntry, Quiet, OverLimit, Says, keeps}
 use Rattle.meaning.proofs.Basics.{by-cases, clash, false-of, and-l, and-r, eqb-true}
 use Rattle.meaning.proofs.Verdict.{none-true, empty-clause-false}
 use Rattle.rules.proofs.Chosen.{stuck-none, stuck-room, stuck-blocked}
 use Rattle.rules.proofs.Entries.{read-entry, entry-read}
-use Rattle.rules.proofs.Kept.{Kept}
 use Rattle.rules.proofs.Next.{next-over}
 use Rattle.rules.proofs.Runs.{run-rest, run-kept}
 use Rattle.meaning.proofs.Prefix.{exists-mentioned, forall-mentioned}

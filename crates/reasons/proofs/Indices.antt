@@ -1,16 +1,16 @@
 -- The index of the first clause that passes a test: it passes, no lower one does, and it is the only such index. Assumes nothing.
-use mathlib.Core.Path.{_≡_, refl, ap}
+use mathlib.Core.Path.{_≡_, refl}
 use Prim.Native.Nat.{ℕ, zero, suc, _<_}
 use native.Mathlib.Omega.{arith}
 use mathlib.Core.Bool.{Bool, true, false, _||_, not, cond, false≢true}
 use mathlib.Core.List.{List, [], _∷_}
-use lib.Dec.{eqb, ltb}
+use lib.Dec.{ltb}
 use lib.ListN.{length}
 use borrow.Author.Tests.{ltb-true, lt-ltb}
-use Rattle.meaning.specs.Lists.{allOf, anyOf}
+use Rattle.meaning.specs.Lists.{anyOf}
 use Rattle.rules.specs.Simplify.{clauseAt, isClause}
 use Rattle.reasons.specs.Reason.{firstIndex}
-use Rattle.meaning.proofs.Basics.{by-cases, clash, false-of, not-true}
+use Rattle.meaning.proofs.Basics.{by-cases, clash, not-true}
 use Rattle.meaning.proofs.Lists.{any-none}
 use Rattle.rules.proofs.Permitted.{all-at}
 

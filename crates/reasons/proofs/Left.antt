@@ -1,19 +1,18 @@
 -- The reason of a variable where there is no verdict and no step of kinds 1 to 5: it satisfies its statement, and no other reason
 -- satisfies its own. Assumes nothing.
-use mathlib.Core.Path.{_≡_, refl, sym, _∙_, ap, ap₂}
+use mathlib.Core.Path.{_≡_, refl, sym, _∙_, ap, subst}
 use Prim.Native.Nat.{ℕ, _+_, _<_, _≤_}
 use native.Mathlib.Omega.{arith}
-use mathlib.Core.Bool.{Bool, true, false, _&&_, _||_, not, cond, true≢false, false≢true}
-use lib.Dec.{ltb, leb}
+use mathlib.Core.Bool.{Bool, true, false, _&&_, _||_, not, cond}
 use borrow.Author.Tests.{lt-ltb, le-ltb, leb-true, leb-false}
 use Rattle.meaning.specs.Formula.{Formula, mentions, existential, universal}
 use Rattle.meaning.specs.WellFormed.{wellFormed, fits, weight}
 use Rattle.rules.specs.Entry.{Kind, unit, pure, subsume, strengthen, equality, resolve, expand, code, usesB, entry, call, readEntry}
 use Rattle.rules.specs.Step.{permitted, resultOf}
 use Rattle.rules.specs.Choice.{costly, light, wanted, allowedCall, onCall, allowed}
-use Rattle.reasons.specs.Reason.{Limit, firstLimit, Reason, ownEntry, tooFarRight, notLighter, between, tooHeavy, overLimit, farClause, farVariable, universalAfter, existentialAfter, whyExistential, whyUniversal, whyLeft}
+use Rattle.reasons.specs.Reason.{Limit, firstLimit, ownEntry, tooFarRight, notLighter, between, tooHeavy, overLimit, farClause, farVariable, universalAfter, existentialAfter, whyExistential, whyUniversal, whyLeft}
 use Rattle.reasons.specs.Statement.{Quiet, OwnEntry, TooFarRight, NotLighter, Between, TooHeavy, PassesFirst, OverLimit, Says}
-use Rattle.meaning.proofs.Basics.{by-cases, clash, false-of, and-l, and-r}
+use Rattle.meaning.proofs.Basics.{by-cases, clash, false-of}
 use Rattle.meaning.proofs.Prefix.{one-kind}
 use Rattle.meaning.proofs.Parts.{good-of}
 use Rattle.rules.proofs.Entries.{entry-read}
@@ -47,6 +46,45 @@ parts : (E : ℕ) (φ : Formula) (k : Kind) (v : ℕ) → costly k ≡ true → 
 unfolding allowedCall wanted
 parts E φ k v c t r x y = rw (c, x, y)
 
+-- What the definition gives, by what the step is: it counts; it is not permitted; it is not light enough; it only does not fit.
+-- Code goes by these -----------------------------------------------------------------------------------------------
+module _ (E : ℕ) (φ : Formula) (v : ℕ) where
+  pub existential-counts : allowedCall E φ resolve v 0 ≡ true → whyExistential E φ v ≡ ownEntry (entry resolve v 0)
+  unfolding whyExistential
+  existential-counts h = rw h
+
+  pub existential-far : permitted φ resolve v 0 ≡ false → whyExistential E φ v ≡ tooFarRight (farClause φ v) (farVariable φ v) (universalAfter φ v)
+  unfolding whyExistential costly
+  existential-far p = rw (parts E φ resolve v refl false _ p refl, p)
+
+  pub existential-heavy : permitted φ resolve v 0 ≡ true → light E resolve (weight φ) (weight (resultOf φ resolve v 0)) ≡ false
+      → whyExistential E φ v ≡ notLighter (weight φ) (weight (resultOf φ resolve v 0))
+  unfolding whyExistential costly
+  existential-heavy p l = rw (parts E φ resolve v refl true false p l, p, l)
+
+  pub existential-limit : permitted φ resolve v 0 ≡ true → light E resolve (weight φ) (weight (resultOf φ resolve v 0)) ≡ true → fits (resultOf φ resolve v 0) ≡ false
+      → whyExistential E φ v ≡ overLimit (firstLimit (resultOf φ resolve v 0))
+  unfolding whyExistential costly
+  existential-limit p l f = rw (parts E φ resolve v refl true true p l, p, l, f)
+
+  pub universal-counts : allowedCall E φ expand v 0 ≡ true → whyUniversal E φ v ≡ ownEntry (entry expand v 0)
+  unfolding whyUniversal
+  universal-counts h = rw h
+
+  pub universal-between : permitted φ expand v 0 ≡ false → whyUniversal E φ v ≡ between (existentialAfter φ v) (universalAfter φ (existentialAfter φ v))
+  unfolding whyUniversal costly
+  universal-between p = rw (parts E φ expand v refl false _ p refl, p)
+
+  pub universal-heavy : permitted φ expand v 0 ≡ true → light E expand (weight φ) (weight (resultOf φ expand v 0)) ≡ false
+      → whyUniversal E φ v ≡ tooHeavy (weight φ) (weight (resultOf φ expand v 0))
+  unfolding whyUniversal costly
+  universal-heavy p l = rw (parts E φ expand v refl true false p l, p, l)
+
+  pub universal-limit : permitted φ expand v 0 ≡ true → light E expand (weight φ) (weight (resultOf φ expand v 0)) ≡ true → fits (resultOf φ expand v 0) ≡ false
+      → whyUniversal E φ v ≡ overLimit (firstLimit (resultOf φ expand v 0))
+  unfolding whyUniversal costly
+  universal-limit p l f = rw (parts E φ expand v refl true true p l, p, l, f)
+
 module _ (E : ℕ) (φ : Formula) (w : wellFormed φ ≡ true) (v : ℕ) where
   -- The reason is true -----------------------------------------------------------------------------------------------
   own : fits φ ≡ true → Quiet φ → (k : Kind) → 6 ≤ code k → (usesB k || true) ≡ true → allowedCall E φ k v 0 ≡ true → OwnEntry E φ v (entry k v 0)
@@ -55,28 +93,34 @@ module _ (E : ℕ) (φ : Formula) (w : wellFormed φ ≡ true) (v : ℕ) where
       record { quiet = quiet; kind = k; calls = r .0; of-6-or-7 = high; counts = r .1 }
 
   existential-true : fits φ ≡ true → Quiet φ → existential (φ .prefix) v ≡ true → Says E φ v (whyExistential E φ v)
-  unfolding whyExistential
-  existential-true f quiet e = go (allowedCall E φ resolve v 0) (permitted φ resolve v 0) (light E resolve (weight φ) (weight (resultOf φ resolve v 0))) refl refl refl
+  unfolding code usesB costly
+  existential-true f quiet e =
+      by-cases (allowedCall E φ resolve v 0)
+      (λ a. subst (Says E φ v) (sym (existential-counts E φ v a)) (own f quiet resolve (omega arith) refl a))
+      (λ a. by-cases (permitted φ resolve v 0) (λ b. by-cases (light E resolve (weight φ) (weight (resultOf φ resolve v 0))) (narrow a b) (heavy b)) (λ b. subst (Says E φ v) (sym (existential-far E φ v b)) (far-true φ w v quiet e b)))
     where
-      go : (s t r : Bool) → allowedCall E φ resolve v 0 ≡ s → permitted φ resolve v 0 ≡ t → light E resolve (weight φ) (weight (resultOf φ resolve v 0)) ≡ r
-          → Says E φ v (cond s (ownEntry (entry resolve v 0)) (cond (not t) (tooFarRight (farClause φ v) (farVariable φ v) (universalAfter φ v)) (cond (not r) (notLighter (weight φ) (weight (resultOf φ resolve v 0))) (overLimit (firstLimit (resultOf φ resolve v 0))))))
-      go true t r a b c = own f quiet resolve (unfold code in omega arith) (unfold usesB in refl) a
-      go false false r a b c = far-true φ w v quiet e b
-      go false true false a b c = record { quiet = quiet; may = b; before = refl; after = refl; no-fall = no-fall E _ _ c }
-      go false true true a b c =
-          record { quiet = quiet; kind = resolve; of-6-or-7 = unfold code in omega arith; may = b; light-enough = c; passes = limit-true _ (sym (parts E φ resolve v (unfold costly in refl) true true b c) ∙ a) }
+      heavy : permitted φ resolve v 0 ≡ true → light E resolve (weight φ) (weight (resultOf φ resolve v 0)) ≡ false → Says E φ v (whyExistential E φ v)
+      heavy b c = subst (Says E φ v) (sym (existential-heavy E φ v b c)) (record { quiet = quiet; may = b; before = refl; after = refl; no-fall = no-fall E _ _ c })
+
+      narrow : allowedCall E φ resolve v 0 ≡ false → permitted φ resolve v 0 ≡ true → light E resolve (weight φ) (weight (resultOf φ resolve v 0)) ≡ true → Says E φ v (whyExistential E φ v)
+      narrow a b c =
+          let full : fits (resultOf φ resolve v 0) ≡ false = sym (parts E φ resolve v refl true true b c) ∙ a in
+          subst (Says E φ v) (sym (existential-limit E φ v b c full)) (record { quiet = quiet; kind = resolve; of-6-or-7 = omega arith; may = b; light-enough = c; passes = limit-true _ full })
 
   universal-true : fits φ ≡ true → Quiet φ → universal (φ .prefix) v ≡ true → Says E φ v (whyUniversal E φ v)
-  unfolding whyUniversal
-  universal-true f quiet e = go (allowedCall E φ expand v 0) (permitted φ expand v 0) (light E expand (weight φ) (weight (resultOf φ expand v 0))) refl refl refl
+  unfolding code usesB costly
+  universal-true f quiet e =
+      by-cases (allowedCall E φ expand v 0)
+      (λ a. subst (Says E φ v) (sym (universal-counts E φ v a)) (own f quiet expand (omega arith) refl a))
+      (λ a. by-cases (permitted φ expand v 0) (λ b. by-cases (light E expand (weight φ) (weight (resultOf φ expand v 0))) (narrow a b) (heavy b)) (λ b. subst (Says E φ v) (sym (universal-between E φ v b)) (between-true φ w v quiet e b)))
     where
-      go : (s t r : Bool) → allowedCall E φ expand v 0 ≡ s → permitted φ expand v 0 ≡ t → light E expand (weight φ) (weight (resultOf φ expand v 0)) ≡ r
-          → Says E φ v (cond s (ownEntry (entry expand v 0)) (cond (not t) (between (existentialAfter φ v) (universalAfter φ (existentialAfter φ v))) (cond (not r) (tooHeavy (weight φ) (weight (resultOf φ expand v 0))) (overLimit (firstLimit (resultOf φ expand v 0))))))
-      go true t r a b c = own f quiet expand (unfold code in omega arith) (unfold usesB in refl) a
-      go false false r a b c = between-true φ w v quiet e b
-      go false true false a b c = record { quiet = quiet; may = b; before = refl; after = refl; rise = rise E _ _ c }
-      go false true true a b c =
-          record { quiet = quiet; kind = expand; of-6-or-7 = unfold code in omega arith; may = b; light-enough = c; passes = limit-true _ (sym (parts E φ expand v (unfold costly in refl) true true b c) ∙ a) }
+      heavy : permitted φ expand v 0 ≡ true → light E expand (weight φ) (weight (resultOf φ expand v 0)) ≡ false → Says E φ v (whyUniversal E φ v)
+      heavy b c = subst (Says E φ v) (sym (universal-heavy E φ v b c)) (record { quiet = quiet; may = b; before = refl; after = refl; rise = rise E _ _ c })
+
+      narrow : allowedCall E φ expand v 0 ≡ false → permitted φ expand v 0 ≡ true → light E expand (weight φ) (weight (resultOf φ expand v 0)) ≡ true → Says E φ v (whyUniversal E φ v)
+      narrow a b c =
+          let full : fits (resultOf φ expand v 0) ≡ false = sym (parts E φ expand v refl true true b c) ∙ a in
+          subst (Says E φ v) (sym (universal-limit E φ v b c full)) (record { quiet = quiet; kind = expand; of-6-or-7 = omega arith; may = b; light-enough = c; passes = limit-true _ full })
 
   exists-else : mentions (φ .prefix) v ≡ true → universal (φ .prefix) v ≡ false → existential (φ .prefix) v ≡ true
   exists-else m e = let at : Place (φ .prefix) v = place (φ .prefix) v (good-of φ w) m in at .exists-is ∙ ap not (sym (at .forall-is) ∙ e)
@@ -84,43 +128,6 @@ module _ (E : ℕ) (φ : Formula) (w : wellFormed φ ≡ true) (v : ℕ) where
   pub left-true : fits φ ≡ true → Quiet φ → mentions (φ .prefix) v ≡ true → Says E φ v (whyLeft E φ v)
   unfolding whyLeft
   left-true f quiet m = by-cases (universal (φ .prefix) v) (λ e. rw e (universal-true f quiet e)) (λ e. rw e (existential-true f quiet (exists-else m e)))
-
-  -- What the definition gives, by what the step is: it counts; it is not permitted; it is not light enough; it only does not fit ----
-  existential-counts : allowedCall E φ resolve v 0 ≡ true → whyExistential E φ v ≡ ownEntry (entry resolve v 0)
-  unfolding whyExistential
-  existential-counts h = rw h
-
-  existential-far : permitted φ resolve v 0 ≡ false → whyExistential E φ v ≡ tooFarRight (farClause φ v) (farVariable φ v) (universalAfter φ v)
-  unfolding whyExistential costly
-  existential-far p = rw (parts E φ resolve v refl false _ p refl, p)
-
-  existential-heavy : permitted φ resolve v 0 ≡ true → light E resolve (weight φ) (weight (resultOf φ resolve v 0)) ≡ false
-      → whyExistential E φ v ≡ notLighter (weight φ) (weight (resultOf φ resolve v 0))
-  unfolding whyExistential costly
-  existential-heavy p l = rw (parts E φ resolve v refl true false p l, p, l)
-
-  existential-limit : permitted φ resolve v 0 ≡ true → light E resolve (weight φ) (weight (resultOf φ resolve v 0)) ≡ true → fits (resultOf φ resolve v 0) ≡ false
-      → whyExistential E φ v ≡ overLimit (firstLimit (resultOf φ resolve v 0))
-  unfolding whyExistential costly
-  existential-limit p l f = rw (parts E φ resolve v refl true true p l, p, l, f)
-
-  universal-counts : allowedCall E φ expand v 0 ≡ true → whyUniversal E φ v ≡ ownEntry (entry expand v 0)
-  unfolding whyUniversal
-  universal-counts h = rw h
-
-  universal-between : permitted φ expand v 0 ≡ false → whyUniversal E φ v ≡ between (existentialAfter φ v) (universalAfter φ (existentialAfter φ v))
-  unfolding whyUniversal costly
-  universal-between p = rw (parts E φ expand v refl false _ p refl, p)
-
-  universal-heavy : permitted φ expand v 0 ≡ true → light E expand (weight φ) (weight (resultOf φ expand v 0)) ≡ false
-      → whyUniversal E φ v ≡ tooHeavy (weight φ) (weight (resultOf φ expand v 0))
-  unfolding whyUniversal costly
-  universal-heavy p l = rw (parts E φ expand v refl true false p l, p, l)
-
-  universal-limit : permitted φ expand v 0 ≡ true → light E expand (weight φ) (weight (resultOf φ expand v 0)) ≡ true → fits (resultOf φ expand v 0) ≡ false
-      → whyUniversal E φ v ≡ overLimit (firstLimit (resultOf φ expand v 0))
-  unfolding whyUniversal costly
-  universal-limit p l f = rw (parts E φ expand v refl true true p l, p, l, f)
 
   -- The only one -------------------------------------------------------------------------------------------------------
   of-existential : existential (φ .prefix) v ≡ true → whyLeft E φ v ≡ whyExistential E φ v
@@ -152,28 +159,32 @@ module _ (E : ℕ) (φ : Formula) (w : wellFormed φ ≡ true) (v : ℕ) where
       go subsume h r = absurd (omega arith)
       go strengthen h r = absurd (omega arith)
       go equality h r = absurd (omega arith)
-      go resolve h r = resolved (entry-permitted E φ e resolve v 0 r (s .counts)) ∙ (existential-counts (call-counts resolve r) ∙ ap ownEntry ((entry-read e resolve v 0 r) .number))
-      go expand h r = expanded (entry-permitted E φ e expand v 0 r (s .counts)) ∙ (universal-counts (call-counts expand r) ∙ ap ownEntry ((entry-read e expand v 0 r) .number))
+      go resolve h r =
+          resolved (entry-permitted E φ e resolve v 0 r (s .counts))
+          ∙ (existential-counts E φ v (call-counts resolve r) ∙ ap ownEntry ((entry-read e resolve v 0 r) .number))
+      go expand h r =
+          expanded (entry-permitted E φ e expand v 0 r (s .counts))
+          ∙ (universal-counts E φ v (call-counts expand r) ∙ ap ownEntry ((entry-read e expand v 0 r) .number))
 
   pub far-reason : (i y u : ℕ) → TooFarRight φ v i y u → whyLeft E φ v ≡ tooFarRight i y u
   far-reason i y u s =
       let o : OnlyFar φ w v i y u = far-only φ w v i y u s in
-      of-existential (s .exists) ∙ (existential-far (o .forbidden) ∙ rw (o .clause, o .variable, o .universal))
+      of-existential (s .exists) ∙ (existential-far E φ v (o .forbidden) ∙ rw (o .clause, o .variable, o .universal))
 
   pub lighter-reason : (m n : ℕ) → NotLighter φ v m n → whyLeft E φ v ≡ notLighter m n
   lighter-reason m n s =
       let l : weight φ ≤ weight (resultOf φ resolve v 0) = rw (s .before, s .after) at (s .no-fall) in
-      resolved (s .may) ∙ (existential-heavy (s .may) (not-light E _ _ l) ∙ rw (← s .before, ← s .after))
+      resolved (s .may) ∙ (existential-heavy E φ v (s .may) (not-light E _ _ l) ∙ rw (← s .before, ← s .after))
 
   pub between-reason : (e u : ℕ) → Between φ v e u → whyLeft E φ v ≡ between e u
   between-reason e u s =
       let o : OnlyBetween φ w v e u = between-only φ w v e u s in
-      of-universal (s .forall) ∙ (universal-between (o .forbidden) ∙ rw (o .exists, o .forall))
+      of-universal (s .forall) ∙ (universal-between E φ v (o .forbidden) ∙ rw (o .exists, o .forall))
 
   pub heavy-reason : (m n : ℕ) → TooHeavy E φ v m n → whyLeft E φ v ≡ tooHeavy m n
   heavy-reason m n s =
       let l : weight φ + E < weight (resultOf φ expand v 0) = rw (s .before, s .after) at (s .rise) in
-      expanded (s .may) ∙ (universal-heavy (s .may) (too-heavy E _ _ l) ∙ rw (← s .before, ← s .after))
+      expanded (s .may) ∙ (universal-heavy E φ v (s .may) (too-heavy E _ _ l) ∙ rw (← s .before, ← s .after))
 
   pub limit-reason : (l : Limit) → OverLimit E φ v l → whyLeft E φ v ≡ overLimit l
   unfolding code
@@ -185,5 +196,5 @@ module _ (E : ℕ) (φ : Formula) (w : wellFormed φ ≡ true) (v : ℕ) where
       go subsume h p q f = absurd (omega arith)
       go strengthen h p q f = absurd (omega arith)
       go equality h p q f = absurd (omega arith)
-      go resolve h p q f = let o = limit-only (resultOf φ resolve v 0) l f in resolved p ∙ (existential-limit p q (o .0) ∙ ap overLimit (o .1))
-      go expand h p q f = let o = limit-only (resultOf φ expand v 0) l f in expanded p ∙ (universal-limit p q (o .0) ∙ ap overLimit (o .1))
+      go resolve h p q f = let o = limit-only (resultOf φ resolve v 0) l f in resolved p ∙ (existential-limit E φ v p q (o .0) ∙ ap overLimit (o .1))
+      go expand h p q f = let o = limit-only (resultOf φ expand v 0) l f in expanded p ∙ (universal-limit E φ v p q (o .0) ∙ ap overLimit (o .1))

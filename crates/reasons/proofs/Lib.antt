@@ -8,3 +8,4 @@ pub mod Limits
 pub mod Left
 pub mod Reasons
 pub mod Finished
+pub mod Examples

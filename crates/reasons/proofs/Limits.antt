@@ -1,6 +1,6 @@
 -- The first limit that a formula passes: it is the one named, and the only one. Assumes nothing.
-use mathlib.Core.Path.{_≡_, refl, sym, _∙_, ap₂}
-use mathlib.Core.Bool.{Bool, true, false, _&&_, not, cond, true≢false, false≢true}
+use mathlib.Core.Path.{_≡_, refl, sym, _∙_}
+use mathlib.Core.Bool.{Bool, true, false, _&&_, not, cond, true≢false}
 use Rattle.meaning.specs.Formula.{Formula}
 use Rattle.meaning.specs.WellFormed.{fits}
 use Rattle.reasons.specs.Reason.{Limit, ofVariables, ofClauses, ofLiterals, within, firstLimit}

@@ -1,29 +1,26 @@
 -- What comes before the variable is looked at: the verdict, the run's next entry, or that no step of kinds 1 to 5 can be taken.
 -- Assumes nothing.
-use mathlib.Core.Path.{_≡_, refl, sym, _∙_, ap, ap₂, subst}
-use Prim.Native.Nat.{ℕ, _<_, _≤_}
+use mathlib.Core.Path.{_≡_, refl, sym, _∙_, ap}
+use Prim.Native.Nat.{ℕ, _≤_}
 use native.Mathlib.Omega.{arith}
-use mathlib.Core.Bool.{Bool, true, false, _&&_, _||_, not, cond, true≢false, false≢true}
-use mathlib.Core.List.{List, [], _∷_}
+use mathlib.Core.Bool.{Bool, true, false, _||_, cond, true≢false, false≢true}
 use lib.Dec.{eqb, ltb}
-use borrow.Author.Tests.{ltb-true, lt-ltb}
-use Rattle.meaning.specs.Lists.{anyOf}
-use Rattle.meaning.specs.Formula.{Formula, mentions}
+use borrow.Author.Tests.{ltb-true}
+use Rattle.meaning.specs.Formula.{Formula}
 use Rattle.meaning.specs.Game.{emptyClause, noClause}
 use Rattle.meaning.specs.WellFormed.{wellFormed, fits}
 use Rattle.rules.specs.Entry.{Kind, unit, pure, subsume, strengthen, equality, resolve, expand, code, usesB, entry, call, readEntry}
 use Rattle.rules.specs.Step.{permitted}
-use Rattle.rules.specs.Choice.{costly, light, wanted, allowedCall, onCall, allowed, Choice, takeStep, stuck, choose}
-use Rattle.rules.specs.Run.{End, isTRUE, isFALSE, finished, outOfRoom, Next, over, step, nextOf, next}
+use Rattle.rules.specs.Choice.{costly, light, wanted, allowedCall, onCall, allowed, none, candidate, Choice, takeStep, stuck, choose}
+use Rattle.rules.specs.Run.{isTRUE, isFALSE, over, nextOf, next}
 use Rattle.rules.proofs.Ahead.{leftOf, pairBefore, ahead}
 use Rattle.rules.proofs.First.{First, choose-first}
 use Rattle.reasons.specs.Statement.{NoVerdict, NextEntry, Quiet}
-use Rattle.meaning.proofs.Basics.{by-cases, clash, false-of, and-l, and-i, or-l, or-r, eqb-true, eqb-eq}
-use Rattle.rules.proofs.Entries.{Fields, read-entry, entry-read, Reads, code-inj}
+use Rattle.meaning.proofs.Basics.{clash, false-of, or-l, or-r, eqb-true, eqb-eq}
+use Rattle.rules.proofs.Entries.{read-entry, entry-read, code-inj}
 use Rattle.rules.proofs.Permitted.{wanted-permitted, allowed-wanted, pure-says}
-use Rattle.rules.proofs.Choose.{Used, Listed, listed, fields-of}
-use Rattle.rules.proofs.Chosen.{takes-fields, takes-allowed, choose-takes, stuck-none}
-use Rattle.rules.proofs.Next.{over-step, next-step, next-over}
+use Rattle.rules.proofs.Choose.{Used, Listed, listed, fields-of, find-none}
+use Rattle.rules.proofs.Chosen.{takes-fields, stuck-none}
 use Rattle.reasons.proofs.Places.{same-place}
 use Rattle.reasons.proofs.Indices.{neither-less}
 
@@ -120,6 +117,14 @@ costly-quiet E φ w f n k a b h c =
     let s : First E φ k a b = choose-first E φ w f k a b h in
     let high : 6 ≤ code k = costly-high k c in
     record { no-verdict = n; none = none-permitted E φ f (λ e j c d r l. s .lowest-kind e j c d r (omega arith)) }
+
+-- by the candidates of the choice, for code that looks for these kinds only
+pub candidates-quiet : (E : ℕ) (φ : Formula) → NoVerdict φ → ((k : Kind) → code k ≤ 5 → candidate E φ k ≡ none) → Quiet φ
+candidates-quiet E φ n c =
+    record {
+      no-verdict = n;
+      none = λ k a b l. false-of _ (λ h. let d : (d : ℕ) × Used k d × (allowedCall E φ k a d ≡ true) = low-counts E φ k a b l h in clash (d .2) (find-none E φ k (c k l) a (d .0) (d .1)));
+    }
 
 -- The next entry -------------------------------------------------------------------------------------------------
 pub next-true : (E : ℕ) (φ : Formula) → wellFormed φ ≡ true → fits φ ≡ true → NoVerdict φ → (k : Kind) (a b : ℕ) → choose E φ ≡ takeStep k a b → costly k ≡ false

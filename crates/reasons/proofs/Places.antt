@@ -1,14 +1,14 @@
 -- Left and right in a good prefix: of two variables one stands left of the other; a part at the right end has the order of the
 -- whole; the first entry of a part that passes a test has none that passes to its left. Assumes nothing.
-use mathlib.Core.Path.{_≡_, refl, sym, _∙_, ap, subst}
-use Prim.Native.Nat.{ℕ, _+_, _*_}
+use mathlib.Core.Path.{_≡_, refl, sym, _∙_, ap}
+use Prim.Native.Nat.{ℕ}
 use mathlib.Core.Bool.{Bool, true, false, _||_, not, cond, false≢true}
 use mathlib.Core.List.{List, [], _∷_, _++_, append-assoc}
 use lib.Dec.{eqb}
 use Rattle.meaning.specs.Lists.{anyOf, has, firstOf}
-use Rattle.meaning.specs.Formula.{var, odd, isVar, mentions, rightOf}
+use Rattle.meaning.specs.Formula.{var, isVar, mentions, rightOf}
 use Rattle.meaning.specs.WellFormed.{goodPrefix}
-use Rattle.meaning.proofs.Basics.{by-cases, clash, false-of, or-l, or-r, or-il, or-ir, or-elim, eqb-true, eqb-eq, eqb-ne, eqb-self}
+use Rattle.meaning.proofs.Basics.{clash, false-of, or-l, or-r, or-il, or-ir, or-elim, eqb-true, eqb-eq, eqb-ne, eqb-self}
 use Rattle.meaning.proofs.Lists.{any-append, any-le}
 use Rattle.meaning.proofs.Prefix.{good-out, good-tail, right-mentioned}
 

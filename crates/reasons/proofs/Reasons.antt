@@ -1,25 +1,23 @@
 -- The theorems of request 2: "names the reason, and prove it true and the only one". Assumes nothing.
-use mathlib.Core.Path.{_≡_, refl, sym, _∙_, ap, subst}
-use Prim.Native.Nat.{ℕ, suc, _≤_}
+use mathlib.Core.Path.{_≡_, refl, sym, _∙_, ap}
+use Prim.Native.Nat.{ℕ}
 use native.Mathlib.Omega.{arith}
-use mathlib.Core.Bool.{Bool, true, false, cond, not, _&&_, _||_, true≢false, false≢true}
+use mathlib.Core.Bool.{Bool, true, false, cond, false≢true}
 use mathlib.Core.List.{List, [], _∷_}
 use Rattle.meaning.specs.Lists.{anyOf}
 use Rattle.meaning.specs.Formula.{Formula, mentions}
-use Rattle.meaning.specs.Game.{isTrue, emptyClause, noClause}
-use Rattle.meaning.specs.WellFormed.{wellFormed, fits, weight}
-use Rattle.rules.specs.Entry.{Kind, unit, pure, subsume, strengthen, equality, resolve, expand, entry, Call, bad, call, readEntry}
-use Rattle.rules.specs.Step.{permitted, resultOf}
-use Rattle.rules.specs.Choice.{costly, light, wanted, allowedCall, blockedCall, onCall, allowed, blocked, Choice, takeStep, stuck, choose}
-use Rattle.rules.specs.Run.{End, isTRUE, isFALSE, finished, outOfRoom, ended, Next, over, step, nextOf, next, logged, onward, runFrom}
-use Rattle.reasons.specs.Reason.{Limit, Reason, verdict, nextEntry, ownEntry, tooFarRight, notLighter, between, tooHeavy, overLimit, firstLimit, whyExistential, whyUniversal, whyLeft, reasonAt, reasonOf}
-use Rattle.reasons.specs.Statement.{NoVerdict, NextEntry, Quiet, OwnEntry, OverLimit, Says, keeps}
-use Rattle.meaning.proofs.Basics.{by-cases, clash, false-of}
-use Rattle.rules.proofs.Next.{over-step, next-step, next-over, end-true, end-false}
-use Rattle.rules.proofs.Chosen.{choose-takes, stuck-none, stuck-room, stuck-blocked}
+use Rattle.meaning.specs.Game.{emptyClause, noClause}
+use Rattle.meaning.specs.WellFormed.{wellFormed, fits}
+use Rattle.rules.specs.Entry.{Kind, entry}
+use Rattle.rules.specs.Choice.{costly, Choice, takeStep, stuck, choose}
+use Rattle.rules.specs.Run.{isTRUE, isFALSE, finished, outOfRoom, Next, over, step, nextOf, next}
+use Rattle.reasons.specs.Reason.{Reason, verdict, nextEntry, ownEntry, tooFarRight, notLighter, between, tooHeavy, overLimit, whyLeft, reasonAt, reasonOf}
+use Rattle.reasons.specs.Statement.{NoVerdict, NextEntry, Quiet, Says}
+use Rattle.meaning.proofs.Basics.{clash}
+use Rattle.rules.proofs.Next.{over-step, next-step, next-over}
+use Rattle.rules.proofs.Chosen.{choose-takes}
 use Rattle.rules.proofs.Permitted.{wanted-permitted, allowed-wanted}
 use Rattle.rules.proofs.Entries.{entry-read}
-use Rattle.rules.proofs.Runs.{run-rest}
 use Rattle.reasons.proofs.Nexts.{cheap-low, open-next, verdict-or, stuck-quiet, costly-quiet, next-true, next-only, low-cheap}
 use Rattle.reasons.proofs.Left.{left-true, own-only, far-reason, lighter-reason, between-reason, heavy-reason, limit-reason}
 
@@ -54,7 +52,7 @@ module _ (E : ℕ) (φ : Formula) (w : wellFormed φ ≡ true) (f : fits φ ≡ 
 
   -- The only one -----------------------------------------------------------------------------------------------------
   -- where there is no verdict and no step of kinds 1 to 5, the variable is looked at
-  quiet-left : Quiet φ → reasonOf E φ v ≡ whyLeft E φ v
+  pub quiet-left : Quiet φ → reasonOf E φ v ≡ whyLeft E φ v
   unfolding reasonOf reasonAt nextOf
   quiet-left q = ap (reasonAt E φ v) (open-next E φ (q .no-verdict)) ∙ go (choose E φ) refl
     where

@@ -4,7 +4,6 @@
 use mathlib.Core.Path.{_≡_}
 use Prim.Native.Nat.{ℕ, _+_, _<_, _≤_}
 use mathlib.Core.Bool.{Bool, true, false}
-use mathlib.Core.List.{List}
 use lib.ListN.{length}
 use Rattle.meaning.specs.Formula.{Formula, mentions, existential, universal}
 use Rattle.meaning.specs.Game.{emptyClause, noClause}
