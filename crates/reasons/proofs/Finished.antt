@@ -18,6 +18,7 @@ use Rattle.meaning.proofs.Basics.{by-cases, clash, false-of, and-l, and-r, eqb-
 use Rattle.meaning.proofs.Verdict.{none-true, empty-clause-false}
 use Rattle.rules.proofs.Chosen.{stuck-none, stuck-room, stuck-blocked}
 use Rattle.rules.proofs.Entries.{read-entry, entry-read}
+use Rattle.rules.proofs.Kept.{Kept}
 use Rattle.rules.proofs.Next.{next-over}
 use Rattle.rules.proofs.Runs.{run-rest, run-kept}
 use Rattle.meaning.proofs.Prefix.{exists-mentioned, forall-mentioned}
@@ -57,7 +58,7 @@ module _ (E : ℕ) (φ : Formula) (f : fits φ ≡ true) (v : ℕ) where
   unfolding whyLeft
   left-keeps n = by-cases (universal (φ .prefix) v) (λ e. rw e (universal-keeps n)) (λ e. rw e (existential-keeps n))
 
-  -- in a FINISHED or OUT OF ROOM formula the reason is neither a verdict nor an entry
+  -- In a FINISHED or OUT OF ROOM formula the reason is neither a verdict nor an entry.
   pub left-reason : (e : End) → without-verdict e ≡ true → next E φ ≡ over e → keeps (reasonOf E φ v) ≡ true
   unfolding without-verdict reasonOf reasonAt
   left-reason isTRUE o h = absurd (false≢true o)
@@ -65,10 +66,14 @@ module _ (E : ℕ) (φ : Formula) (f : fits φ ≡ true) (v : ℕ) where
   left-reason finished o h = rw h (left-keeps (stuck-none E φ false (next-over E φ finished h)))
   left-reason outOfRoom o h = rw h (left-keeps (stuck-none E φ true (next-over E φ outOfRoom h)))
 
--- so in the formula that a run leaves
-pub run-left : (E n : ℕ) (φ : Formula) → wellFormed φ ≡ true → fits φ ≡ true → (e : End) → without-verdict e ≡ true → (runFrom E n φ) .outcome ≡ ended e → (v : ℕ)
-    → keeps (reasonOf E ((runFrom E n φ) .final) v) ≡ true
-run-left E n φ w f e o h v = left-reason E ((runFrom E n φ) .final) ((run-kept E n φ w f) .room) v e o (run-rest E n φ e h)
+-- So in the formula that a run leaves at FINISHED or OUT OF ROOM every variable left has a reason that is no entry.
+pub run-left : (E n : ℕ) (φ : Formula) → wellFormed φ ≡ true → fits φ ≡ true → (e : End) → without-verdict e ≡ true → (runFrom E n φ) .outcome ≡ ended e
+    → (v : ℕ)
+    → mentions ((runFrom E n φ) .final .prefix) v ≡ true
+    → Says E ((runFrom E n φ) .final) v (reasonOf E ((runFrom E n φ) .final) v) × (keeps (reasonOf E ((runFrom E n φ) .final) v) ≡ true)
+run-left E n φ w f e o h v m =
+    let k : Kept φ ((runFrom E n φ) .final) = run-kept E n φ w f in
+    (reason-true E _ (k .well) (k .room) v m, left-reason E _ (k .room) v e o (run-rest E n φ e h))
 
 -- Limits ---------------------------------------------------------------------------------------------------------
 high-costly : (k : Kind) → 6 ≤ code k → (costly k ≡ true) × (usesB k ≡ false)
@@ -110,7 +115,7 @@ module _ (E : ℕ) (φ : Formula) (w : wellFormed φ ≡ true) (f : fits φ ≡ 
       let i : Listed φ (s .kind) v 0 = listed φ (s .kind) v 0 (rw (c .1)) (s .may) in
       rw (read-entry (s .kind) v 0 (fields-of φ f (s .kind) v 0 i), s .may, s .light-enough, c .0, (limit-only _ l (s .passes)) .0)
 
-  -- FINISHED: no variable's reason is a limit
+  -- At FINISHED no variable's reason is a limit.
   pub finished-no-limit : next E φ ≡ over finished → (v : ℕ) → mentions (φ .prefix) v ≡ true → (l : Limit) → reasonOf E φ v ≡ overLimit l → ⊥
   finished-no-limit h v m l e =
       let s : OverLimit E φ v l = subst (Says E φ v) e (reason-true E φ w f v m) in
@@ -127,7 +132,7 @@ module _ (E : ℕ) (φ : Formula) (w : wellFormed φ ≡ true) (f : fits φ ≡ 
       record { quiet = quiet; kind = k; of-6-or-7 = costly-high k c; may = p; light-enough = and-r (permitted φ k v 0) _ i; passes = limit-true _ (blocked-full E φ k v 0 h) } in
       (costly-inside φ k v c p, reason-is E φ w f v (overLimit (firstLimit (resultOf φ k v 0))) s)
 
-  -- OUT OF ROOM: one is
+  -- At OUT OF ROOM one variable's is.
   pub room-limit : next E φ ≡ over outOfRoom → (v : ℕ) × (l : Limit) × (mentions (φ .prefix) v ≡ true) × (reasonOf E φ v ≡ overLimit l)
   room-limit h = go (readEntry (b .0)) refl (unfold blocked in (b .1))
     where
@@ -150,18 +155,18 @@ module _ (E : ℕ) (φ : Formula) (w : wellFormed φ ≡ true) (f : fits φ ≡ 
 
 -- What the verdict and the next entry are ------------------------------------------------------------------------
 
--- TRUE and FALSE are the truth of the formula
 no-clause : (cs : List (List ℕ)) → noClause cs ≡ true → cs ≡ []
 unfolding noClause
 no-clause [] h = refl
 no-clause (c ∷ cs) h = absurd (false≢true h)
 
+-- A verdict is the truth of the formula.
 pub verdict-truth : (φ : Formula) (b : Bool) → Verdict φ b → isTrue φ ≡ b
 unfolding isTrue
 verdict-truth φ true h = ap (λ (cs : List (List ℕ)). truth (φ .prefix) cs (λ _. false)) (no-clause (φ .clauses) h) ∙ none-true (φ .prefix) (λ _. false)
 verdict-truth φ false h = empty-clause-false (φ .prefix) (φ .clauses) h (λ _. false)
 
--- the next entry is the first that a run logs
+-- The next entry is the first that a run logs.
 pub next-logged : (E n : ℕ) (φ : Formula) → wellFormed φ ≡ true → fits φ ≡ true → (e : ℕ) → NextEntry E φ e → (es : List ℕ) × ((runFrom E (suc n) φ) .log ≡ e ∷ es)
 unfolding runFrom onward logged nextOf
 next-logged E n φ w f e r =

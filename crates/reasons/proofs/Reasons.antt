@@ -29,12 +29,28 @@ empty-none (c ∷ cs) h = absurd (false≢true h)
 never : _≡_ {A = ℕ} 0 1 → ⊥
 never z = omega arith
 
+module _ (E : ℕ) (φ : Formula) (v : ℕ) where
+  -- where there is no verdict and no step of kinds 1 to 5, the variable is looked at
+  pub quiet-left : Quiet φ → reasonOf E φ v ≡ whyLeft E φ v
+  unfolding reasonOf reasonAt nextOf
+  quiet-left q = ap (reasonAt E φ v) (open-next E φ (q .no-verdict)) ∙ go (choose E φ) refl
+    where
+      by-kind : (k : Kind) (a b : ℕ) → choose E φ ≡ takeStep k a b → (s : Bool) → costly k ≡ s → cond s (whyLeft E φ v) (nextEntry (entry k a b)) ≡ whyLeft E φ v
+      by-kind k a b h true c = refl
+      by-kind k a b h false c = clash (wanted-permitted E φ k a b (allowed-wanted E φ k a b ((choose-takes E φ k a b h) .counts))) (q .none k a b (cheap-low k c))
+
+      go : (c : Choice) → choose E φ ≡ c → reasonAt E φ v (nextOf c) ≡ whyLeft E φ v
+      go (takeStep k a b) h = by-kind k a b h (costly k) refl
+      go (stuck true) h = refl
+      go (stuck false) h = refl
+
 module _ (E : ℕ) (φ : Formula) (w : wellFormed φ ≡ true) (f : fits φ ≡ true) (v : ℕ) where
   -- True -----------------------------------------------------------------------------------------------------------
   -- where what is next is no verdict
   open-at : (x : Next) → next E φ ≡ x → (x ≡ over isTRUE → ⊥) → (x ≡ over isFALSE → ⊥) → NoVerdict φ
   open-at x h t u = verdict-or E φ (λ e. t (sym h ∙ e)) (λ e. u (sym h ∙ e))
 
+  -- The reason given for a variable of the prefix satisfies its statement.
   pub reason-true : mentions (φ .prefix) v ≡ true → Says E φ v (reasonOf E φ v)
   unfolding reasonOf reasonAt
   reason-true m = go (next E φ) refl
@@ -51,20 +67,6 @@ module _ (E : ℕ) (φ : Formula) (w : wellFormed φ ≡ true) (f : fits φ ≡ 
       go (step k a b) h = by-kind k a b h (costly k) refl
 
   -- The only one -----------------------------------------------------------------------------------------------------
-  -- where there is no verdict and no step of kinds 1 to 5, the variable is looked at
-  pub quiet-left : Quiet φ → reasonOf E φ v ≡ whyLeft E φ v
-  unfolding reasonOf reasonAt nextOf
-  quiet-left q = ap (reasonAt E φ v) (open-next E φ (q .no-verdict)) ∙ go (choose E φ) refl
-    where
-      by-kind : (k : Kind) (a b : ℕ) → choose E φ ≡ takeStep k a b → (s : Bool) → costly k ≡ s → cond s (whyLeft E φ v) (nextEntry (entry k a b)) ≡ whyLeft E φ v
-      by-kind k a b h true c = refl
-      by-kind k a b h false c = clash (wanted-permitted E φ k a b (allowed-wanted E φ k a b ((choose-takes E φ k a b h) .counts))) (q .none k a b (cheap-low k c))
-
-      go : (c : Choice) → choose E φ ≡ c → reasonAt E φ v (nextOf c) ≡ whyLeft E φ v
-      go (takeStep k a b) h = by-kind k a b h (costly k) refl
-      go (stuck true) h = refl
-      go (stuck false) h = refl
-
   next-is : (e : ℕ) → NextEntry E φ e → reasonOf E φ v ≡ nextEntry e
   unfolding reasonOf reasonAt nextOf
   next-is e r =
@@ -77,16 +79,17 @@ module _ (E : ℕ) (φ : Formula) (w : wellFormed φ ≡ true) (f : fits φ ≡ 
   verdict-is true h = rw (empty-none (φ .clauses) h, h)
   verdict-is false h = rw h
 
-  -- a reason whose statement holds is the one given
+  -- A reason whose statement holds is the one given.
   pub reason-is : (r : Reason) → Says E φ v r → reasonOf E φ v ≡ r
   reason-is (verdict b) s = verdict-is b s
   reason-is (nextEntry e) s = next-is e s
-  reason-is (ownEntry e) s = quiet-left (s .quiet) ∙ own-only E φ w v e s
-  reason-is (tooFarRight i y u) s = quiet-left (s .quiet) ∙ far-reason E φ w v i y u s
-  reason-is (notLighter m n) s = quiet-left (s .quiet) ∙ lighter-reason E φ w v m n s
-  reason-is (between e u) s = quiet-left (s .quiet) ∙ between-reason E φ w v e u s
-  reason-is (tooHeavy m n) s = quiet-left (s .quiet) ∙ heavy-reason E φ w v m n s
-  reason-is (overLimit l) s = quiet-left (s .quiet) ∙ limit-reason E φ w v l s
+  reason-is (ownEntry e) s = quiet-left E φ v (s .quiet) ∙ own-only E φ w v e s
+  reason-is (tooFarRight i y u) s = quiet-left E φ v (s .quiet) ∙ far-reason E φ w v i y u s
+  reason-is (notLighter m n) s = quiet-left E φ v (s .quiet) ∙ lighter-reason E φ w v m n s
+  reason-is (between e u) s = quiet-left E φ v (s .quiet) ∙ between-reason E φ w v e u s
+  reason-is (tooHeavy m n) s = quiet-left E φ v (s .quiet) ∙ heavy-reason E φ w v m n s
+  reason-is (overLimit l) s = quiet-left E φ v (s .quiet) ∙ limit-reason E φ w v l s
 
+  -- No two different reasons satisfy theirs.
   pub reason-only : (r s : Reason) → Says E φ v r → Says E φ v s → r ≡ s
   reason-only r s x y = sym (reason-is r x) ∙ reason-is s y
