@@ -27,9 +27,9 @@ record Row : Type 0 where
   variable : ℕ
   reason : Reason
 
--- `e 3 4 a 2 e 1`, (-1 4)(-1 -2 -3)(1 2)(3 -4)
+-- `e 3 4 a 2 e 1`, (3 -4)(-1 4)(-1 -2 -3)(1 2)
 abbrev far : Formula
-far = make (6 ∷ 8 ∷ 5 ∷ 2 ∷ []) ((3 ∷ 8 ∷ []) ∷ (3 ∷ 5 ∷ 7 ∷ []) ∷ (2 ∷ 4 ∷ []) ∷ (6 ∷ 9 ∷ []) ∷ [])
+far = make (6 ∷ 8 ∷ 5 ∷ 2 ∷ []) ((6 ∷ 9 ∷ []) ∷ (3 ∷ 8 ∷ []) ∷ (3 ∷ 5 ∷ 7 ∷ []) ∷ (2 ∷ 4 ∷ []) ∷ [])
 
 -- `e 1 a 2 e 3`, (1 3)(-1 -2 -3)(2 3)
 abbrev further : Formula
@@ -59,9 +59,10 @@ rows =
     -- expanding 1 takes the weight from 12 to 14: it counts with E = 2, and not with E = 1
     record { formula = one; allowance = 2; variable = 1; reason = ownEntry (entry expand 1 0) } ∷
     record { formula = one; allowance = 1; variable = 1; reason = tooHeavy 12 14 } ∷
-    -- clause 0 has not 3; clause 1 has it with 1 and 2, which do not stand left of 2. Of these 2 is the leftmost, the universal itself
-    record { formula = far; allowance = 0; variable = 3; reason = tooFarRight 1 2 2 } ∷
-    record { formula = far; allowance = 0; variable = 4; reason = tooFarRight 0 1 2 } ∷
+    -- clause 0 has 3 with 4, which stands left of the universal 2; clause 1 has not 3; clause 2 has it with 1 and 2, which do not stand
+    -- left of 2. Of these the leftmost is the universal itself
+    record { formula = far; allowance = 0; variable = 3; reason = tooFarRight 2 2 2 } ∷
+    record { formula = far; allowance = 0; variable = 4; reason = tooFarRight 1 1 2 } ∷
     -- clause 0 has 1 with 3, which stands right of 2
     record { formula = further; allowance = 0; variable = 1; reason = tooFarRight 0 3 2 } ∷
     record { formula = sums; allowance = 0; variable = 1; reason = notLighter 37 44 } ∷
