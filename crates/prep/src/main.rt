@@ -1,9 +1,9 @@
 // The program: a formula in QDIMACS on standard input; a run with E = 0, and room for 8,192 steps; the outcome, the number of
 // steps and the formula that is left on standard output. What is refused in reading is printed as `r`, number and offset.
-use reader::Reading;
+use rimhlada::Counts;
+use rimhlada::Reading;
 use rimhlada::RunAnswer;
 use shows::say;
-use table::Counts;
 
 // The outcome's word. The tables come from the reader and E is 0, so no refusal is seen.
 fn show_outcome(answer: RunAnswer) {
@@ -38,7 +38,7 @@ fn show_text(out: &[u8], n: usize) {
 // A written formula is at most 62,463 bytes long, so there is room for it.
 fn show_formula(first: &[u16], second: &[u16], c: Counts) {
     let mut out = [0u8; 65536];
-    let w = writer::write(first, second, c, &mut out);
+    let w = rimhlada::write(first, second, c, &mut out);
     show_text(&out, w.bytes);
 }
 
@@ -58,7 +58,7 @@ fn show_run(first: &mut [u16; 11261], second: &mut [u16; 11261], c: Counts) {
 fn read_input(first: &mut [u16; 11261], second: &mut [u16; 11261]) -> Reading {
     let mut text = [0u8; 65537];
     let n = io::read_full(0, &mut text);
-    reader::read(&text[..n], first, second)
+    rimhlada::read(&text[..n], first, second)
 }
 
 fn main() {

@@ -21,44 +21,44 @@ use Rattle.qdimacs.specs.declared.Phase.{Phase}
 use Rattle.qdimacs.specs.declared.Phase.the-variants.{AtP, AtCnf, AtM, AtC, Line, Open, Vars, Clause, Full}
 use Rattle.qdimacs.specs.declared.Move.{Move}
 use Rattle.qdimacs.specs.declared.Move.the-variants.{Fault, Go, SetM, SetC, Entry, Literal, Close}
-use Rattle.reader.specs.Reading.{answerNumber, answerFor, refusal, readingFor}
+use Rattle.reader.specs.Reading.{readNumber, answerFor, refusal, readingFor}
 use Rattle.reader.proofs.TrackLaws.{closing}
 
 -- k is the number of an answer that is a refusal
 abbrev Known : ℕ → Type 0
-Known k = answerNumber (answerFor k) ≡ k
+Known k = readNumber (answerFor k) ≡ k
 
 module _ where
   known-length : Known LENGTH
-  unfolding answerNumber answerFor
+  unfolding readNumber answerFor
   known-length = refl
 
   known-syntax : Known SYNTAX
-  unfolding answerNumber answerFor
+  unfolding readNumber answerFor
   known-syntax = refl
 
   known-short : Known SHORT
-  unfolding answerNumber answerFor
+  unfolding readNumber answerFor
   known-short = refl
 
   known-range : Known RANGE
-  unfolding answerNumber answerFor
+  unfolding readNumber answerFor
   known-range = refl
 
   known-twice : Known TWICE
-  unfolding answerNumber answerFor
+  unfolding readNumber answerFor
   known-twice = refl
 
   known-unbound : Known UNBOUND
-  unfolding answerNumber answerFor
+  unfolding readNumber answerFor
   known-unbound = refl
 
   known-count : Known COUNT
-  unfolding answerNumber answerFor
+  unfolding readNumber answerFor
   known-count = refl
 
   known-big : Known TOO-BIG
-  unfolding answerNumber answerFor
+  unfolding readNumber answerFor
   known-big = refl
 
 abbrev KnownMove : Move → Type 0
@@ -166,7 +166,7 @@ numberOf (fault k at) = k
 numberOf (good φ) = 0
 
 abbrev Agrees : qdimacs.Answer → Type 0
-Agrees x = answerNumber (readingFor x .answer) ≡ numberOf x
+Agrees x = readNumber (readingFor x .answer) ≡ numberOf x
 
 fault-agrees : (k at : ℕ) → Known k → Agrees (fault k at)
 unfolding readingFor refusal numberOf
@@ -178,10 +178,10 @@ finish-agrees n (faulty k at) h = fault-agrees k at h
 finish-agrees n (reads s) h = go (complete (s .phase) (s .c))
   where
     go : (b : Bool) → Agrees (tidiedAnswer (cond b (good (record { prefix = s .prefix; clauses = s .clauses })) (fault SHORT n)))
-    go true = unfold readingFor answerNumber numberOf in refl
+    go true = unfold readingFor readNumber numberOf in refl
     go false = fault-agrees SHORT n known-short
 
-pub read-number : (text : List ℕ) → answerNumber (readingFor (read text) .answer) ≡ numberOf (read text)
+pub read-number : (text : List ℕ) → readNumber (readingFor (read text) .answer) ≡ numberOf (read text)
 unfolding read asWritten
 read-number text = go (ltb maxText (length text))
   where

@@ -18,7 +18,7 @@ use Rattle.table.specs.Pending.{emptyPending}
 use Rattle.table.specs.declared.Counts.{Counts}
 use Rattle.reader.specs.Tracks.{soFar, fresh, Tracks}
 use Rattle.reader.specs.Reading.{refusal, readingFor, lengthsRight, readingOf, tableFor, firstAfter, secondAfter, Reads, outcomeOf, Left, Filled}
-use Rattle.reader.specs.declared.Answer.the-variants.{Read}
+use Rattle.reader.specs.declared.ReadAnswer.the-variants.{Read}
 use Rattle.reader.specs.declared.Reading.{Reading}
 use Rattle.reader.specs.declared.turns.Outcome.{Outcome}
 use Rattle.reader.specs.declared.turns.Outcome.the-variants.{Taken, Refused}

@@ -13,27 +13,27 @@ use Rattle.qdimacs.specs.Faults.{LENGTH, SYNTAX, SHORT, RANGE, TWICE, UNBOUND, 
 use Rattle.qdimacs.specs.Read.{complete, fault, good, read}
 use Rattle.table.specs.Table.{emptyFormula, tableOf, countsOf}
 use Rattle.table.specs.Check.{rightLengths}
-use Rattle.reader.specs.declared.Answer.{Answer}
-use Rattle.reader.specs.declared.Answer.the-variants.{Read, Length, Syntax, Short, Range, Twice, Unbound, Count, TooBig}
+use Rattle.reader.specs.declared.ReadAnswer.{ReadAnswer}
+use Rattle.reader.specs.declared.ReadAnswer.the-variants.{Read, Length, Syntax, Short, Range, Twice, Unbound, Count, TooBig}
 use Rattle.reader.specs.declared.Reading.{Reading}
 use Rattle.reader.specs.declared.moves.Reader.{Reader}
 use Rattle.reader.specs.declared.turns.Outcome.{Outcome}
 use Rattle.reader.specs.declared.turns.Outcome.the-variants.{Taken, Refused}
 
 -- the numbers of the answers
-unfoldable pub answerNumber : Answer → ℕ
-answerNumber Read = 0
-answerNumber Length = LENGTH
-answerNumber Syntax = SYNTAX
-answerNumber Short = SHORT
-answerNumber Range = RANGE
-answerNumber Twice = TWICE
-answerNumber Unbound = UNBOUND
-answerNumber Count = COUNT
-answerNumber TooBig = TOO-BIG
+unfoldable pub readNumber : ReadAnswer → ℕ
+readNumber Read = 0
+readNumber Length = LENGTH
+readNumber Syntax = SYNTAX
+readNumber Short = SHORT
+readNumber Range = RANGE
+readNumber Twice = TWICE
+readNumber Unbound = UNBOUND
+readNumber Count = COUNT
+readNumber TooBig = TOO-BIG
 
 -- the answer with this number
-unfoldable pub answerFor : ℕ → Answer
+unfoldable pub answerFor : ℕ → ReadAnswer
 answerFor k =
     cond (eqb k LENGTH) Length
     (cond (eqb k SYNTAX) Syntax

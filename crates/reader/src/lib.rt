@@ -1,5 +1,5 @@
 // The reader: a text to the work table of the formula that it writes, tidied (document 01, "Reading and writing").
-ghost use Rattle.reader.specs.Reading.{answerNumber, answerFor, refusal, Reads};
+ghost use Rattle.reader.specs.Reading.{readNumber, answerFor, refusal, Reads};
 ghost use mathlib.Core.Path.{_≡_};
 use crate::turns::Outcome;
 use crate::turns::fill;
@@ -10,7 +10,7 @@ mod moves;
 mod turns;
 
 // What is said of a text: it was read, or why not.
-pub enum Answer {
+pub enum ReadAnswer {
     Read,
     Length,
     Syntax,
@@ -22,58 +22,58 @@ pub enum Answer {
     TooBig,
 }
 
-impl Answer {
+impl ReadAnswer {
     // The number that document 01 gives it.
     pub fn number(self) -> u8
-        ensures { λ r. ⌜ r ≡ answerNumber self ⌝ }
+        ensures { λ r. ⌜ r ≡ readNumber self ⌝ }
     {
         match self {
-            Answer::Read => 0,
-            Answer::Length => 1,
-            Answer::Syntax => 3,
-            Answer::Short => 4,
-            Answer::Range => 5,
-            Answer::Twice => 6,
-            Answer::Unbound => 7,
-            Answer::Count => 8,
-            Answer::TooBig => 9,
+            ReadAnswer::Read => 0,
+            ReadAnswer::Length => 1,
+            ReadAnswer::Syntax => 3,
+            ReadAnswer::Short => 4,
+            ReadAnswer::Range => 5,
+            ReadAnswer::Twice => 6,
+            ReadAnswer::Unbound => 7,
+            ReadAnswer::Count => 8,
+            ReadAnswer::TooBig => 9,
         }
     }
 }
 
 // The answer, the offset of a fault, and the counts of the formula read.
 pub struct Reading {
-    pub answer: Answer,
+    pub answer: ReadAnswer,
     pub offset: usize,
     pub counts: Counts,
 }
 
 // The answer for a refusal's number.
-fn answer_for(k: u8) -> Answer
+fn answer_for(k: u8) -> ReadAnswer
     ensures { λ r. ⌜ r ≡ answerFor k ⌝ }
 {
     if k == 1 {
-        return Answer::Length;
+        return ReadAnswer::Length;
     }
     if k == 3 {
-        return Answer::Syntax;
+        return ReadAnswer::Syntax;
     }
     if k == 4 {
-        return Answer::Short;
+        return ReadAnswer::Short;
     }
     if k == 5 {
-        return Answer::Range;
+        return ReadAnswer::Range;
     }
     if k == 6 {
-        return Answer::Twice;
+        return ReadAnswer::Twice;
     }
     if k == 7 {
-        return Answer::Unbound;
+        return ReadAnswer::Unbound;
     }
     if k == 8 {
-        return Answer::Count;
+        return ReadAnswer::Count;
     }
-    Answer::TooBig
+    ReadAnswer::TooBig
 }
 
 // A refusal with this number, at this offset.
@@ -110,7 +110,7 @@ pub fn read(text: &[u8], first: &mut [u16], second: &mut [u16]) -> Reading
     zero(second);
     match outcome {
         Outcome::Taken(counts) => Reading {
-            answer: Answer::Read,
+            answer: ReadAnswer::Read,
             offset: 0,
             counts: counts,
         },

@@ -83,11 +83,11 @@ pub fn limits(first: &mut [u16; 11261], second: &mut [u16; 11261]) {
 pub fn lengths(first: &mut [u16; 11261], second: &mut [u16; 11261]) {
     io::write_all(1, b"lengths\n");
     let mut short = [7u16; 3];
-    let a = reader::read(b"p cnf 0 0", &mut short, second);
+    let a = rimhlada::read(b"p cnf 0 0", &mut short, second);
     crate::show_reading(a);
-    let b = reader::read(b"p cnf 0 0", first, &mut short);
+    let b = rimhlada::read(b"p cnf 0 0", first, &mut short);
     crate::show_reading(b);
-    let c = reader::read(b"x", &mut short, second);
+    let c = rimhlada::read(b"x", &mut short, second);
     crate::show_reading(c);
     crate::small(short[2]);
     io::write_all(1, b"\n");

@@ -1,6 +1,6 @@
 // Reads stored texts, and writes for each: the answer's number, the offset, the three counts, some numbers of the first table,
 // and how many numbers of each table are not zero. Both tables are dirty before each reading.
-use reader::Reading;
+use rimhlada::Reading;
 use shows::used;
 use shows::word;
 
@@ -29,7 +29,7 @@ fn show_reading(r: Reading) {
 pub fn show(text: &[u8], first: &mut [u16; 11261], second: &mut [u16; 11261]) {
     first[11260] = 1;
     second[0] = 1;
-    let r = reader::read(text, first, second);
+    let r = rimhlada::read(text, first, second);
     show_reading(r);
     io::write_all(1, b"| ");
     small(first[0]);

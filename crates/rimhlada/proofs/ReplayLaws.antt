@@ -4,7 +4,7 @@ use mathlib.Core.Path.{_≡_, refl, ap, _∙_}
 use mathlib.Core.List.{List}
 use Prim.Native.Nat.{ℕ}
 use Rattle.table.specs.declared.Asked.the-variants as said
-use Rattle.rimhlada.specs.declared.replays.ReplayAnswer.the-variants as says
+use Rattle.rimhlada.specs.declared.stepping.StepAnswer.the-variants as says
 use Rattle.rules.specs.Step.{entryBad, notPermitted, noRoom}
 use Rattle.rules.specs.Run as rules
 use Rattle.rules.specs.Run.{allApplied, refusedBy, replayBytes}
@@ -14,11 +14,12 @@ use Rattle.table.specs.declared.Asked.{Asked}
 use Rattle.course.specs.Course.{stopAs, ReplayedAs}
 use Rattle.course.specs.declared.Replaying.{Replaying}
 use Rattle.rimhlada.specs.Standing.{formulaIn, firstFor, secondFor, firstLeft, secondLeft}
+use Rattle.rimhlada.specs.Stepping.{refusalAnswer}
 use Rattle.rimhlada.specs.Replaying.{stopAnswer, replayedFor, replayIn, sideReplayed, Replays, stopBack, replayedBack}
 use Rattle.rimhlada.specs.declared.replays.Replayed.{Replayed}
 
 stop-back : (s : rules.Stop) → stopBack (stopAs s) ≡ stopAnswer s
-unfolding stopBack stopAs stopAnswer
+unfolding stopBack stopAs stopAnswer refusalAnswer
 stop-back allApplied = refl
 stop-back (refusedBy entryBad) = refl
 stop-back (refusedBy notPermitted) = refl

@@ -8,7 +8,7 @@ use native.Mathlib.Omega.{arith}
 use borrow.Author.Tests.{leb-false}
 use lib.Dec.{leb}
 use lib.ListN.{length, take}
-use Rattle.reader.specs.declared.Answer.the-variants as reads
+use Rattle.reader.specs.declared.ReadAnswer.the-variants as reads
 use Rattle.writer.specs.declared.WriteAnswer.the-variants as says
 use Rattle.meaning.specs.Formula.{Formula}
 use Rattle.meaning.specs.WellFormed.{maxText}

@@ -7,8 +7,7 @@ use mathlib.Core.List.{List}
 use Prim.Native.Nat.{ℕ}
 use Rattle.table.specs.declared.Asked.the-variants as said
 use Rattle.course.specs.declared.Stop.the-variants as came
-use Rattle.rimhlada.specs.declared.replays.ReplayAnswer.the-variants as says
-use Rattle.rules.specs.Step.{entryBad, notPermitted, noRoom}
+use Rattle.rimhlada.specs.declared.stepping.StepAnswer.the-variants as says
 use Rattle.rules.specs.Run as rules
 use Rattle.rules.specs.Run.{allApplied, refusedBy, replayBytes}
 use Rattle.table.specs.Table.{countsOf}
@@ -19,24 +18,14 @@ use Rattle.course.specs.Course.{sideFrom}
 use Rattle.course.specs.declared.Stop.{Stop}
 use Rattle.course.specs.declared.Replaying.{Replaying}
 use Rattle.rimhlada.specs.Standing.{formulaIn, firstLeft, secondLeft}
-use Rattle.rimhlada.specs.declared.replays.ReplayAnswer.{ReplayAnswer}
+use Rattle.rimhlada.specs.Stepping.{refusalAnswer}
+use Rattle.rimhlada.specs.declared.stepping.StepAnswer.{StepAnswer}
 use Rattle.rimhlada.specs.declared.replays.Replayed.{Replayed}
 
--- document 01's number of an answer; 0 where nothing is refused
-unfoldable pub replayNumber : ReplayAnswer → ℕ
-replayNumber says.Done = 0
-replayNumber says.Length = 1
-replayNumber says.Malformed = 2
-replayNumber says.BadEntry = 12
-replayNumber says.NotPermitted = 10
-replayNumber says.NoRoom = 11
-
 -- "Replay stops at the first refused entry, gives its refusal"
-unfoldable pub stopAnswer : rules.Stop → ReplayAnswer
+unfoldable pub stopAnswer : rules.Stop → StepAnswer
 stopAnswer allApplied = says.Done
-stopAnswer (refusedBy entryBad) = says.BadEntry
-stopAnswer (refusedBy notPermitted) = says.NotPermitted
-stopAnswer (refusedBy noRoom) = says.NoRoom
+stopAnswer (refusedBy y) = refusalAnswer y
 
 -- One call, by what is said of the tables and by the replay x: ".. and the number applied"; with 1 and 2 "the record comes back as
 -- lent, with 0 steps"
@@ -61,7 +50,7 @@ pub record Replays (a b : List ℕ) (c : Counts) (log : List ℕ) (r : Replayed)
   pub second : b′ ≡ secondLeft (asked a b c) b (sideReplayed c (replayIn a b c log)) (replayIn a b c log .formula)
 
 -- What the replay between the tables comes to, given back -------------------------------------------------------
-unfoldable pub stopBack : Stop → ReplayAnswer
+unfoldable pub stopBack : Stop → StepAnswer
 stopBack came.Applied = says.Done
 stopBack came.BadEntry = says.BadEntry
 stopBack came.NotPermitted = says.NotPermitted

@@ -1,43 +1,31 @@
 // The replay of a log over two lent tables.
 ghost use mathlib.Core.Path.{_≡_};
-ghost use Rattle.rimhlada.specs.Replaying.{replayNumber, replayedBack, Replays};
+ghost use Rattle.rimhlada.specs.Replaying.{stopBack, replayedBack, Replays};
+use crate::stepping::StepAnswer;
 use course::Replaying;
 use course::Stop;
 use table::Asked;
 use table::Counts;
 use table::literals_answer;
 
-// What comes of a call. All entries applied: Done. Else the first refusal.
-pub enum ReplayAnswer {
-    Done,
-    Length,
-    Malformed,
-    BadEntry,
-    NotPermitted,
-    NoRoom,
-}
-
-impl ReplayAnswer {
-    // Document 01's number; 0 where nothing is refused.
-    pub fn number(self) -> u8
-        ensures { λ r. ⌜ r ≡ replayNumber self ⌝ }
-    {
-        match self {
-            ReplayAnswer::Done => 0,
-            ReplayAnswer::Length => 1,
-            ReplayAnswer::Malformed => 2,
-            ReplayAnswer::BadEntry => 12,
-            ReplayAnswer::NotPermitted => 10,
-            ReplayAnswer::NoRoom => 11,
-        }
-    }
-}
-
-// The answer, the record of what the tables hold after it, and the number of entries applied.
+// The answer (Done where all entries are applied, else the first refusal), the record of what the tables hold after it, and the
+// number of entries applied.
 pub struct Replayed {
-    pub answer: ReplayAnswer,
+    pub answer: StepAnswer,
     pub counts: Counts,
     pub applied: usize,
+}
+
+// The answer for a stop.
+fn answer_for(stop: Stop) -> StepAnswer
+    ensures { λ r. ⌜ r ≡ stopBack stop ⌝ }
+{
+    match stop {
+        Stop::Applied => StepAnswer::Done,
+        Stop::BadEntry => StepAnswer::BadEntry,
+        Stop::NotPermitted => StepAnswer::NotPermitted,
+        Stop::NoRoom => StepAnswer::NoRoom,
+    }
 }
 
 // What is given back of a replay.
@@ -45,29 +33,12 @@ fn give_replay(r: Replaying) -> Replayed
     ensures { λ x. ⌜ x ≡ replayedBack r ⌝ }
 {
     let stop = r.stop;
+    let answer = answer_for(stop);
     let counts = r.counts;
-    let applied = r.applied;
-    match stop {
-        Stop::Applied => Replayed {
-            answer: ReplayAnswer::Done,
-            counts: counts,
-            applied: applied,
-        },
-        Stop::BadEntry => Replayed {
-            answer: ReplayAnswer::BadEntry,
-            counts: counts,
-            applied: applied,
-        },
-        Stop::NotPermitted => Replayed {
-            answer: ReplayAnswer::NotPermitted,
-            counts: counts,
-            applied: applied,
-        },
-        Stop::NoRoom => Replayed {
-            answer: ReplayAnswer::NoRoom,
-            counts: counts,
-            applied: applied,
-        },
+    Replayed {
+        answer: answer,
+        counts: counts,
+        applied: r.applied,
     }
 }
 
@@ -83,14 +54,14 @@ pub fn replay(first: &mut [u16], second: &mut [u16], c: Counts, log: &[u8]) -> R
         }
         Asked::WrongLength => {
             return Replayed {
-                answer: ReplayAnswer::Length,
+                answer: StepAnswer::Length,
                 counts: c,
                 applied: 0,
             };
         }
         Asked::Malformed => {
             return Replayed {
-                answer: ReplayAnswer::Malformed,
+                answer: StepAnswer::Malformed,
                 counts: c,
                 applied: 0,
             };

@@ -1,6 +1,6 @@
 // The run over two lent tables, with an allowance, a limit of steps and a lent log.
 ghost use mathlib.Core.Path.{_≡_};
-ghost use Rattle.rimhlada.specs.Running.{runNumber, ranBack, Runs};
+ghost use Rattle.rimhlada.specs.Running.{runNumber, answerBack, ranBack, Runs};
 use course::Outcome;
 use course::Running;
 use table::Asked;
@@ -55,39 +55,30 @@ fn refuse(answer: RunAnswer, c: Counts) -> Ran
     }
 }
 
+// The answer for an outcome.
+fn answer_for(outcome: Outcome) -> RunAnswer
+    ensures { λ r. ⌜ r ≡ answerBack outcome ⌝ }
+{
+    match outcome {
+        Outcome::True => RunAnswer::True,
+        Outcome::False => RunAnswer::False,
+        Outcome::Finished => RunAnswer::Finished,
+        Outcome::OutOfRoom => RunAnswer::OutOfRoom,
+        Outcome::Stopped => RunAnswer::Stopped,
+    }
+}
+
 // What is given back of a run.
 fn give_run(r: Running) -> Ran
     ensures { λ x. ⌜ x ≡ ranBack r ⌝ }
 {
     let outcome = r.outcome;
+    let answer = answer_for(outcome);
     let counts = r.counts;
-    let steps = r.steps;
-    match outcome {
-        Outcome::True => Ran {
-            answer: RunAnswer::True,
-            counts: counts,
-            steps: steps,
-        },
-        Outcome::False => Ran {
-            answer: RunAnswer::False,
-            counts: counts,
-            steps: steps,
-        },
-        Outcome::Finished => Ran {
-            answer: RunAnswer::Finished,
-            counts: counts,
-            steps: steps,
-        },
-        Outcome::OutOfRoom => Ran {
-            answer: RunAnswer::OutOfRoom,
-            counts: counts,
-            steps: steps,
-        },
-        Outcome::Stopped => Ran {
-            answer: RunAnswer::Stopped,
-            counts: counts,
-            steps: steps,
-        },
+    Ran {
+        answer: answer,
+        counts: counts,
+        steps: r.steps,
     }
 }
 

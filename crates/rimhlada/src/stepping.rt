@@ -6,7 +6,7 @@ use table::Asked;
 use table::Counts;
 use table::literals_answer;
 
-// What comes of a call. No refusal: Done.
+// What comes of a step, or of a replay. No refusal: Done.
 pub enum StepAnswer {
     Done,
     Length,

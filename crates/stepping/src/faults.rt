@@ -3,8 +3,8 @@ ghost use Prim.Native.Nat.{_<_};
 use crate::showing::show;
 use crate::showing::show_bits;
 use crate::showing::show_step;
+use rimhlada::Counts;
 use shows::say;
-use table::Counts;
 
 // The clause (2) is a unit, 1 is pure, 2 can be resolved, 1 expanded, clause 0 subsumes 3 and strengthens 2.
 pub fn bad_entries() {
@@ -51,7 +51,7 @@ pub fn lengths() {
     say(b"lengths\n");
     let mut first = [0u16; 11261];
     let mut second = [0u16; 11261];
-    let r = reader::read(b"p cnf 1 1 e 1 0 1 0", &mut first, &mut second);
+    let r = rimhlada::read(b"p cnf 1 1 e 1 0 1 0", &mut first, &mut second);
     let c = r.counts;
     let mut short = [7u16; 11260];
     let mut long = [7u16; 11262];
@@ -70,7 +70,7 @@ pub fn lengths() {
 fn with_record(variables: usize, clauses: usize, literals: usize, second: bool, entry: u32) {
     let mut first = [0u16; 11261];
     let mut spare = [0u16; 11261];
-    reader::read(
+    rimhlada::read(
         b"p cnf 3 2 e 1 0 a 2 0 e 3 0 1 2 3 0 -2 -3 0",
         &mut first,
         &mut spare,
@@ -118,7 +118,7 @@ fn with_number(at: usize, x: u16)
 {
     let mut first = [0u16; 11261];
     let mut spare = [0u16; 11261];
-    let r = reader::read(
+    let r = rimhlada::read(
         b"p cnf 4 3 e 1 0 a 2 0 e 3 4 0 1 3 0 1 4 0 -2 3 0",
         &mut first,
         &mut spare,

@@ -1,11 +1,11 @@
 // What each case shows.
 ghost use Prim.Native.Nat.{_≤_};
 ghost use lib.ListN.{length};
+use rimhlada::Counts;
+use rimhlada::WriteAnswer;
 use shows::say;
 use shows::used;
 use shows::word;
-use table::Counts;
-use writer::WriteAnswer;
 
 // An entry by its parts.
 fn entry_of(kind: u32, a: u32, b: u32) -> u32 {
@@ -61,7 +61,7 @@ fn show_text(out: &mut [u8], n: usize) {
 // The formula that the record names.
 fn show_formula(first: &[u16], second: &[u16], c: Counts) {
     let mut out = [0u8; 65536];
-    let w = writer::write(first, second, c, &mut out);
+    let w = rimhlada::write(first, second, c, &mut out);
     let answer = w.answer;
     let n = w.bytes;
     match answer {
@@ -104,7 +104,7 @@ pub fn show_step(first: &mut [u16], second: &mut [u16], c: Counts, entry: u32) {
 fn from_first(text: &[u8], entry: u32) {
     let mut first = [0u16; 11261];
     let mut second = [0u16; 11261];
-    let r = reader::read(text, &mut first, &mut second);
+    let r = rimhlada::read(text, &mut first, &mut second);
     let c = r.counts;
     let mut spare = [65535u16; 11261];
     show_step(&mut first, &mut spare, c, entry);
@@ -114,7 +114,7 @@ fn from_first(text: &[u8], entry: u32) {
 fn from_second(text: &[u8], entry: u32) {
     let mut first = [0u16; 11261];
     let mut second = [0u16; 11261];
-    let r = reader::read(text, &mut second, &mut first);
+    let r = rimhlada::read(text, &mut second, &mut first);
     let c = r.counts;
     let mut spare = [65535u16; 11261];
     let d = Counts {

@@ -3,18 +3,33 @@
 mod clauses;
 mod formula;
 
-ghost use Rattle.writer.specs.Written.{Wrote};
+ghost use mathlib.Core.Path.{_≡_};
+ghost use Rattle.writer.specs.Written.{writeNumber, Wrote};
 use formula::write_held;
 use table::Asked;
 use table::Counts;
 use table::literals_answer;
 
-// What comes of a call, document 01's numbers 0, 1, 2 and 11.
+// What comes of a call. No refusal: Written.
 pub enum WriteAnswer {
     Written,
     Length,
     Malformed,
     NoRoom,
+}
+
+impl WriteAnswer {
+    // Document 01's number; 0 where nothing is refused.
+    pub fn number(self) -> u8
+        ensures { λ r. ⌜ r ≡ writeNumber self ⌝ }
+    {
+        match self {
+            WriteAnswer::Written => 0,
+            WriteAnswer::Length => 1,
+            WriteAnswer::Malformed => 2,
+            WriteAnswer::NoRoom => 11,
+        }
+    }
 }
 
 // The answer, and how many bytes of the output are the text; 0 for a refusal.

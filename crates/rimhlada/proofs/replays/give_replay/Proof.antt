@@ -1,39 +1,16 @@
--- By the stop.
+-- The answer is that of the stop; the rest is handed on.
 -- Assumes nothing.
-use Rattle.rimhlada.specs.Replaying.{stopBack, replayedBack}
 use borrow.Author.Needs.{needs}
+use Rattle.rimhlada.specs.Replaying.{replayedBack}
 use Rattle.rimhlada.proofs.replays.give_replay.Statement.{statement}
 use Rattle.rimhlada.proofs.replays.give_replay.Tie as tie
 
-enum-told : tie.Need-enum-told
-enum-told c = search needs
-
-enum-told-2 : tie.Need-enum-told-2
-enum-told-2 c = search needs
-
-enum-told-3 : tie.Need-enum-told-3
-enum-told-3 c = search needs
-
-enum-told-4 : tie.Need-enum-told-4
-enum-told-4 c = search needs
+answer-for-requires : tie.Need-answer-for-requires
+answer-for-requires c κs = search needs
 
 returns : tie.Need-returns
-unfolding replayedBack stopBack
-returns c = rw (c .enum-told .given .1)
-
-returns-2 : tie.Need-returns-2
-unfolding replayedBack stopBack
-returns-2 c = rw (c .enum-told2 .given .1)
-
-returns-3 : tie.Need-returns-3
-unfolding replayedBack stopBack
-returns-3 c = rw (c .enum-told3 .given .1)
-
-returns-4 : tie.Need-returns-4
-unfolding replayedBack stopBack
-returns-4 c = rw (c .enum-told4 .given .1)
+unfolding replayedBack
+returns c = rw (c .before .answer-for .ensures)
 
 pub give-replay-spec : {M : Type 1} → statement M
-give-replay-spec =
-    tie.close
-    (tie.spec enum-told enum-told-2 enum-told-3 enum-told-4 returns returns-2 returns-3 returns-4)
+give-replay-spec = tie.close (tie.spec answer-for-requires returns)

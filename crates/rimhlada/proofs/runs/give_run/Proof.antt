@@ -1,56 +1,16 @@
--- By the outcome.
+-- The answer is that of the outcome; the rest is handed on.
 -- Assumes nothing.
-use Rattle.rimhlada.specs.Running.{answerBack, ranBack}
 use borrow.Author.Needs.{needs}
+use Rattle.rimhlada.specs.Running.{ranBack}
 use Rattle.rimhlada.proofs.runs.give_run.Statement.{statement}
 use Rattle.rimhlada.proofs.runs.give_run.Tie as tie
 
-enum-told : tie.Need-enum-told
-enum-told c = search needs
-
-enum-told-2 : tie.Need-enum-told-2
-enum-told-2 c = search needs
-
-enum-told-3 : tie.Need-enum-told-3
-enum-told-3 c = search needs
-
-enum-told-4 : tie.Need-enum-told-4
-enum-told-4 c = search needs
-
-enum-told-5 : tie.Need-enum-told-5
-enum-told-5 c = search needs
+answer-for-requires : tie.Need-answer-for-requires
+answer-for-requires c κs = search needs
 
 returns : tie.Need-returns
-unfolding ranBack answerBack
-returns c = rw (c .enum-told .given .1)
-
-returns-2 : tie.Need-returns-2
-unfolding ranBack answerBack
-returns-2 c = rw (c .enum-told2 .given .1)
-
-returns-3 : tie.Need-returns-3
-unfolding ranBack answerBack
-returns-3 c = rw (c .enum-told3 .given .1)
-
-returns-4 : tie.Need-returns-4
-unfolding ranBack answerBack
-returns-4 c = rw (c .enum-told4 .given .1)
-
-returns-5 : tie.Need-returns-5
-unfolding ranBack answerBack
-returns-5 c = rw (c .enum-told5 .given .1)
+unfolding ranBack
+returns c = rw (c .before .answer-for .ensures)
 
 pub give-run-spec : {M : Type 1} → statement M
-give-run-spec =
-    tie.close
-    (tie.spec
-    enum-told
-    enum-told-2
-    enum-told-3
-    enum-told-4
-    enum-told-5
-    returns
-    returns-2
-    returns-3
-    returns-4
-    returns-5)
+give-run-spec = tie.close (tie.spec answer-for-requires returns)

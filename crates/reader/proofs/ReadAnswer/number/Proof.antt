@@ -1,9 +1,9 @@
 -- By the answer.
 -- Assumes nothing.
 use borrow.Author.Needs.{needs}
-use Rattle.reader.specs.Reading.{answerNumber}
-use Rattle.reader.proofs.Answer.number.Statement.{statement}
-use Rattle.reader.proofs.Answer.number.Tie as tie
+use Rattle.reader.specs.Reading.{readNumber}
+use Rattle.reader.proofs.ReadAnswer.number.Statement.{statement}
+use Rattle.reader.proofs.ReadAnswer.number.Tie as tie
 
 enum-told : tie.Need-enum-told
 enum-told c = search needs
@@ -33,39 +33,39 @@ enum-told-9 : tie.Need-enum-told-9
 enum-told-9 c = search needs
 
 returns : tie.Need-returns
-unfolding answerNumber
+unfolding readNumber
 returns c = rw (c .enum-told .given .1)
 
 returns-2 : tie.Need-returns-2
-unfolding answerNumber
+unfolding readNumber
 returns-2 c = rw (c .enum-told2 .given .1)
 
 returns-3 : tie.Need-returns-3
-unfolding answerNumber
+unfolding readNumber
 returns-3 c = rw (c .enum-told3 .given .1)
 
 returns-4 : tie.Need-returns-4
-unfolding answerNumber
+unfolding readNumber
 returns-4 c = rw (c .enum-told4 .given .1)
 
 returns-5 : tie.Need-returns-5
-unfolding answerNumber
+unfolding readNumber
 returns-5 c = rw (c .enum-told5 .given .1)
 
 returns-6 : tie.Need-returns-6
-unfolding answerNumber
+unfolding readNumber
 returns-6 c = rw (c .enum-told6 .given .1)
 
 returns-7 : tie.Need-returns-7
-unfolding answerNumber
+unfolding readNumber
 returns-7 c = rw (c .enum-told7 .given .1)
 
 returns-8 : tie.Need-returns-8
-unfolding answerNumber
+unfolding readNumber
 returns-8 c = rw (c .enum-told8 .given .1)
 
 returns-9 : tie.Need-returns-9
-unfolding answerNumber
+unfolding readNumber
 returns-9 c = rw (c .enum-told9 .given .1)
 
 pub number-spec : {M : Type 1} → statement M
