@@ -5,7 +5,7 @@ ghost use lib.ListN.{length};
 use crate::numbers::pair;
 use crate::numbers::take_long;
 use crate::numbers::take_word;
-use table::Counts;
+use rimhlada::Counts;
 
 // The first fifty bytes: the operation, the record, the two numbers; then the first table's length, and how many numbers follow.
 pub struct Head {

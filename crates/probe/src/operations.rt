@@ -2,45 +2,26 @@
 use crate::results::put_front;
 use crate::results::put_part;
 use crate::results::put_rest;
-use table::Asked;
-use table::Counts;
-use writer::WriteAnswer;
+use rimhlada::Counts;
 
 pub fn read(text: &[u8], first: &mut [u16], second: &mut [u16], out: &mut [u8]) -> usize {
-    let r = reader::read(text, first, second);
+    let r = rimhlada::read(text, first, second);
     let answer = r.answer;
     let c = r.counts;
     let e = put_front(out, answer.number(), c, r.offset);
     put_rest(out, e, first, second, b"")
 }
 
-fn write_number(answer: WriteAnswer) -> u8 {
-    match answer {
-        WriteAnswer::Written => 0,
-        WriteAnswer::Length => 1,
-        WriteAnswer::Malformed => 2,
-        WriteAnswer::NoRoom => 11,
-    }
-}
-
 pub fn write(first: &[u16], second: &[u16], c: Counts, bytes: &mut [u8], out: &mut [u8]) -> usize {
-    let w = writer::write(first, second, c, bytes);
+    let w = rimhlada::write(first, second, c, bytes);
     let answer = w.answer;
-    let e = put_front(out, write_number(answer), c, w.bytes);
+    let e = put_front(out, answer.number(), c, w.bytes);
     put_rest(out, e, first, second, bytes)
 }
 
-fn asked_number(answer: Asked) -> u8 {
-    match answer {
-        Asked::Given => 0,
-        Asked::WrongLength => 1,
-        Asked::Malformed => 2,
-    }
-}
-
 pub fn literals<'a>(first: &'a [u16], second: &'a [u16], c: Counts, out: &mut [u8]) -> usize {
-    let number = asked_number(table::literals_answer(first, second, c));
-    let part = table::literals_part(first, second, c);
+    let number = rimhlada::literals_number(first, second, c);
+    let part = rimhlada::literals(first, second, c);
     let e = put_front(out, number, c, part.len());
     put_part(out, e, first, second, part)
 }

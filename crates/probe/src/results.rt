@@ -4,7 +4,7 @@ ghost use lib.ListN.{length};
 use crate::numbers::high;
 use crate::numbers::low;
 use crate::numbers::put_number;
-use table::Counts;
+use rimhlada::Counts;
 
 // How many numbers of a table reach to the last that is not zero.
 fn reach(t: &[u16]) -> usize
