@@ -1,0 +1,11 @@
+//! The cases: groups of calls, each made from a seed, its group's name and its number, so that any one can be made again.
+
+pub mod bounds;
+pub mod entries;
+pub mod formulas;
+pub mod groups;
+pub mod interlock;
+pub mod lent;
+pub mod malformed;
+pub mod text_edges;
+pub mod texts;
