@@ -30,22 +30,37 @@ pub fn near(rng: &mut Rng, f: &Formula, kind: u32) -> Entry {
     }
 }
 
-/// All permitted entries of the kind. For kinds 3 to 5 only pairs among the first clauses are tried.
+/// Permitted entries of the kind: all of them for a small formula, some of them for a large one.
 pub fn permitted(f: &Formula, kind: u32) -> Vec<Entry> {
-    let n = f.clauses.len() as u32;
-    let m = n.min(40);
+    let clauses: Vec<u32> = (0..f.clauses.len() as u32).collect();
+    let variables: Vec<u32> = f.prefix.iter().map(|b| b.var).collect();
     let entries: Vec<Entry> = match kind {
-        1 => (0..n).map(|a| entry(1, a, 0)).collect(),
-        2 | 6 | 7 => f.prefix.iter().map(|b| entry(kind, b.var, 0)).collect(),
-        _ => (0..m).flat_map(|a| (0..m).map(move |b| entry(kind, a, b))).collect(),
+        1 => clauses.iter().map(|&a| entry(1, a, 0)).collect(),
+        2 | 6 | 7 => thinned(&variables, 60).iter().map(|&a| entry(kind, a, 0)).collect(),
+        _ => {
+            let some = thinned(&clauses, 40);
+            some.iter().flat_map(|&a| some.iter().map(move |&b| entry(kind, a, b))).collect()
+        }
     };
     entries.into_iter().filter(|&e| likely(f, e) && whole(f, e).is_some()).collect()
+}
+
+/// The list if it is short, else members of it at even distance and the last eight.
+fn thinned(list: &[u32], most: usize) -> Vec<u32> {
+    if list.len() <= most {
+        return list.to_vec();
+    }
+    let last = list.len() - 8;
+    let mut some: Vec<u32> = list[..last].iter().copied().step_by(last / (most - 8) + 1).collect();
+    some.extend(&list[last..]);
+    some
 }
 
 /// A cheap look before the step is tried: clauses of kind 5 have two literals, those of kinds 3 and 4 share something.
 fn likely(f: &Formula, e: Entry) -> bool {
     let (a, b) = (e.a as usize, e.b as usize);
     match e.kind {
+        1 => f.clauses[a].len() == 1,
         3 => f.clauses[a].len() <= f.clauses[b].len(),
         4 => f.clauses[a].iter().any(|&l| f.clauses[b].contains(&opposite(l))),
         5 => f.clauses[a].len() == 2 && f.clauses[b].len() == 2,

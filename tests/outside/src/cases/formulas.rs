@@ -132,7 +132,7 @@ pub fn hard(rng: &mut Rng, variables: usize) -> Formula {
         vars.iter().enumerate().map(|(i, &v)| if block(i) % 2 == 0 { exists(v) } else { forall(v) }).collect();
     let existentials: Vec<Bound> = prefix.iter().copied().filter(|b| b.is_existential()).collect();
     let mut raw = Vec::new();
-    let times = *rng.pick(&[3, 4, 5, 6]);
+    let times = *rng.pick(&[3, 4, 6, 8, 10]);
     for _ in 0..variables * times / 2 {
         let mut clause = literals(rng, &existentials, 2);
         let more = rng.from(1, 2);
@@ -195,4 +195,37 @@ pub fn regular(rng: &mut Rng, vars: &[u32], times: usize, length: usize) -> Vec<
         left = again;
     }
     raw
+}
+
+/// A regular formula with universals anywhere but at the right end.
+pub fn regular_mixed(rng: &mut Rng) -> Formula {
+    let variables = rng.from(8, 40);
+    let vars: Vec<u32> = (1..=variables as u32).collect();
+    let (length, times) = (rng.from(3, 4), rng.from(2, 4));
+    let raw = regular(rng, &vars, times, length);
+    let share = rng.from(2, 8);
+    let inner = rng.below(variables);
+    let bound = |rng: &mut Rng, v: u32| if (v as usize) < inner && rng.once_in(share) { forall(v) } else { exists(v) };
+    let prefix = vars.iter().map(|&v| bound(rng, v)).collect();
+    of_raw(prefix, &raw)
+}
+
+/// Outer existentials that nothing can be done with, a few universals, and inner existentials in clauses with all of them.
+pub fn regular_expandable(rng: &mut Rng) -> Formula {
+    let (outer, universals, inner) = (rng.from(9, 24) as u32, rng.from(1, 4) as u32, rng.from(2, 5) as u32);
+    let outer_vars: Vec<u32> = (1..=outer).collect();
+    let mut prefix: Vec<Bound> = outer_vars.iter().map(|&v| exists(v)).collect();
+    let universal: Vec<Bound> = (outer + 1..=outer + universals).map(forall).collect();
+    let existential: Vec<Bound> = (outer + universals + 1..=outer + universals + inner).map(exists).collect();
+    let mut raw = regular(rng, &outer_vars, 3, 3);
+    for _ in 0..rng.from(4, 6) * inner as usize {
+        let mut clause = vec![literal(rng, &existential), literal(rng, &existential), literal(rng, &prefix)];
+        if !rng.once_in(3) {
+            clause.push(literal(rng, &universal));
+        }
+        raw.push(clause);
+    }
+    prefix.extend(universal);
+    prefix.extend(existential);
+    of_raw(prefix, &raw)
 }

@@ -2,11 +2,13 @@
 
 use super::bounds::{self, Measure};
 use super::entries;
+use super::folding::{expand_folding, resolve_folding};
 use super::formulas::{self, Size, MIDDLE, SMALL, WIDE};
+use super::full::full;
 use super::interlock::interlock;
 use super::lent::{lend, random_bytes, spare, spoil_lengths};
 use super::{malformed, text_edges, texts};
-use crate::model::entry::Entry;
+use crate::model::entry::{entry, Entry};
 use crate::model::face::{Call, Operation, Record, OPERATIONS};
 use crate::model::formula::{exists, Formula};
 use crate::model::limits::TABLE;
@@ -38,8 +40,12 @@ pub fn groups() -> Vec<Group> {
         group("step: bad entries and random ones", 500, step_bad),
         group("step: wider formulas", 150, step_wide),
         group("step: results at the limits", BOUNDS.len() * 3, step_bound),
+        group("step: many equal clauses in the result", 60, step_folding),
+        group("all but read: full tables", 120, full_tables),
         group("run: random formulas", 1500, run_random),
         group("run: harder formulas", 600, run_hard),
+        group("run: many equal clauses in the result", 60, run_folding),
+        group("run: regular formulas with universals", 200, run_regular),
         group("run: interlocks", 150, run_interlock),
         group("run: limits and logs that are short", 600, run_short),
         group("run: wider formulas", 40, run_wide),
@@ -285,6 +291,37 @@ fn step_bound(rng: &mut Rng, number: usize) -> Call {
     call
 }
 
+fn step_folding(rng: &mut Rng, number: usize) -> Call {
+    let f = folding(rng, number);
+    let mut call = lend(rng, Operation::Step, &f);
+    let e = if number % 2 == 0 { entry(6, 100, 0) } else { entry(7, 1, 0) };
+    call.a = e.bits() as u64;
+    call
+}
+
+/// Even numbers: resolvents that are equal; odd ones: halves of an expansion with equal clauses, up to more than 2,047 in all.
+fn folding(rng: &mut Rng, number: usize) -> Formula {
+    if number % 2 == 0 {
+        let (outer, universals, each) = (rng.from(1, 40), rng.from(2, 12), rng.from(2, 60));
+        resolve_folding(rng, outer, universals, each)
+    } else {
+        let inner = rng.from(3, 60);
+        let pairs = if rng.coin() { rng.from(600, 800) } else { rng.from(1, 100) };
+        expand_folding(rng, inner, pairs)
+    }
+}
+
+/// Each operation and each kind of step on tables that are full, well formed and with one field wrong.
+fn full_tables(rng: &mut Rng, number: usize) -> Call {
+    let f = full(rng);
+    let operation = *rng.pick(&[Operation::Write, Operation::Literals, Operation::Step, Operation::Step, Operation::Replay]);
+    let mut call = any_call(rng, &f, operation);
+    if number % 4 == 0 {
+        malformed::spoil(rng, &mut call);
+    }
+    call
+}
+
 fn run_call(rng: &mut Rng, f: &Formula, allowance: u64, limit: u64, log: usize) -> Call {
     let mut call = lend(rng, Operation::Run, f);
     call.a = allowance;
@@ -302,8 +339,27 @@ fn run_random(rng: &mut Rng, _: usize) -> Call {
 
 /// Formulas that no kind finds easy, so that all kinds are taken and all outcomes reached.
 fn run_hard(rng: &mut Rng, number: usize) -> Call {
-    let variables = if number % 10 == 0 { rng.from(15, 30) } else { rng.from(4, 14) };
+    let variables = if number % 5 == 0 { rng.from(15, 30) } else { rng.from(4, 14) };
     let f = formulas::hard(rng, variables);
+    let allowance = allowance(rng);
+    run_call(rng, &f, allowance, 1000, 4000)
+}
+
+fn run_folding(rng: &mut Rng, number: usize) -> Call {
+    let f = if number % 2 == 0 {
+        let (outer, universals, each) = (rng.from(1, 12), rng.from(4, 12), rng.from(2, 50));
+        resolve_folding(rng, outer, universals, each)
+    } else {
+        let (inner, pairs) = (rng.from(3, 14), rng.from(3, 60));
+        expand_folding(rng, inner, pairs)
+    };
+    let allowance = allowance(rng);
+    run_call(rng, &f, allowance, 1000, 4000)
+}
+
+/// Every variable stands as often in each phase, universals among them: little to do but expand.
+fn run_regular(rng: &mut Rng, number: usize) -> Call {
+    let f = if number % 2 == 0 { formulas::regular_mixed(rng) } else { formulas::regular_expandable(rng) };
     let allowance = allowance(rng);
     run_call(rng, &f, allowance, 1000, 4000)
 }
@@ -451,7 +507,7 @@ fn replay_bound(rng: &mut Rng, number: usize) -> Call {
     let unused = (1..=1023).rev().find(|v| f.prefix.iter().all(|b| b.var != *v));
     if let (Some(v), true) = (unused, f.prefix.len() < 1023) {
         f.prefix.insert(0, exists(v));
-        log.extend(crate::model::entry::entry(2, v, 0).bytes());
+        log.extend(entry(2, v, 0).bytes());
     }
     log.extend(e.bytes());
     log.extend(random_bytes(rng, 4));

@@ -2,7 +2,9 @@
 
 pub mod bounds;
 pub mod entries;
+pub mod folding;
 pub mod formulas;
+pub mod full;
 pub mod groups;
 pub mod interlock;
 pub mod lent;
