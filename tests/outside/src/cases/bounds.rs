@@ -176,6 +176,19 @@ pub fn resolve_out_of_clauses(rng: &mut Rng, clauses: usize) -> Formula {
     of_raw(prefix, &raw)
 }
 
+/// The same with one more kind 6 step, on variable 960, whose weight falls less but whose result fits: it is taken first, and
+/// then the other fits as well.
+pub fn best_does_not_fit(rng: &mut Rng) -> Formula {
+    let mut f = resolve_out_of_clauses(rng, 2045);
+    let last = f.prefix.pop().expect("x");
+    f.prefix.insert(780, exists(960));
+    f.prefix.push(last);
+    let mut raw = f.clauses;
+    raw.push(vec![plain(960), plain(10), plain(20)]);
+    raw.push(vec![negated(960), plain(30), plain(40)]);
+    of_raw(f.prefix, &raw)
+}
+
 /// A formula where the one kind 6 step that makes the weight fall has one literal more than it begins with: one positive
 /// clause of five, two negative ones. It begins with `literals` literals.
 pub fn resolve_out_of_literals(rng: &mut Rng, literals: usize) -> Formula {

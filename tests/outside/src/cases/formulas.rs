@@ -212,7 +212,13 @@ pub fn regular_mixed(rng: &mut Rng) -> Formula {
 
 /// Outer existentials that nothing can be done with, a few universals, and inner existentials in clauses with all of them.
 pub fn regular_expandable(rng: &mut Rng) -> Formula {
-    let (outer, universals, inner) = (rng.from(9, 24) as u32, rng.from(1, 4) as u32, rng.from(2, 5) as u32);
+    let (outer, universals, inner) = (rng.from(9, 24), rng.from(1, 4), rng.from(2, 5));
+    expandable(rng, outer, universals, inner)
+}
+
+/// The same in any size.
+pub fn expandable(rng: &mut Rng, outer: usize, universals: usize, inner: usize) -> Formula {
+    let (outer, universals, inner) = (outer as u32, universals as u32, inner as u32);
     let outer_vars: Vec<u32> = (1..=outer).collect();
     let mut prefix: Vec<Bound> = outer_vars.iter().map(|&v| exists(v)).collect();
     let universal: Vec<Bound> = (outer + 1..=outer + universals).map(forall).collect();

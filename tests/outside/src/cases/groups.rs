@@ -50,9 +50,12 @@ pub fn groups() -> Vec<Group> {
         group("run: limits and logs that are short", 600, run_short),
         group("run: wider formulas", 40, run_wide),
         group("run: allowances at the edge", 200, run_allowance),
-        group("run: only room is missing", 8, run_room),
+        group("run: only room is missing", 9, run_room),
+        group("run: formulas that grow", 12, run_growing),
+        group("run: full tables", 15, run_full),
         group("replay: logs of runs", 400, replay_run),
         group("replay: permitted entries in a row", 500, replay_random),
+        group("replay: long logs", 10, replay_long),
         group("replay: damaged logs", 600, replay_damaged),
         group("replay: results at the limits", BOUNDS.len(), replay_bound),
     ]
@@ -423,9 +426,38 @@ fn run_room(rng: &mut Rng, number: usize) -> Call {
         4 => (bounds::resolve_out_of_literals(rng, 8191), 0, 10),
         5 => (bounds::resolve_out_of_literals(rng, 8190), 0, 3),
         6 => (bounds::expand_out_of_room(rng, true), 0, 10),
-        _ => (bounds::resolve_out_of_clauses(rng, 2047), 1000, 0),
+        7 => (bounds::resolve_out_of_clauses(rng, 2047), 1000, 1),
+        _ => (bounds::best_does_not_fit(rng), 0, 10),
     };
     run_call(rng, &f, allowance, limit, 400)
+}
+
+/// With a large allowance the formula grows step by step until it has no room.
+fn run_growing(rng: &mut Rng, _: usize) -> Call {
+    let (outer, universals, inner) = (rng.from(650, 940), rng.from(3, 7), rng.from(5, 14));
+    let f = formulas::expandable(rng, outer, universals, inner);
+    let allowance = *rng.pick(&[600, 999, 1000, 1000]);
+    run_call(rng, &f, allowance, 40, 70_000)
+}
+
+fn run_full(rng: &mut Rng, _: usize) -> Call {
+    let f = full(rng);
+    let allowance = allowance(rng);
+    let limit = *rng.pick(&[1, 5, 100, u64::MAX]);
+    run_call(rng, &f, allowance, limit, 8000)
+}
+
+/// A log of some hundred entries on a full table, now and then with an entry in it that is refused.
+fn replay_long(rng: &mut Rng, _: usize) -> Call {
+    let f = full(rng);
+    let mut log = run(&f, 0, 300, 4000).log;
+    if rng.once_in(3) && !log.is_empty() {
+        let at = rng.below(log.len() / 4) * 4;
+        let kind = rng.from(1, 7) as u32;
+        let wrong = entries::near(rng, &f, kind).bytes();
+        log.splice(at..at, wrong);
+    }
+    replay_call(rng, &f, log)
 }
 
 fn replay_call(rng: &mut Rng, f: &Formula, log: Vec<u8>) -> Call {

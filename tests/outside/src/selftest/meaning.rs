@@ -2,7 +2,7 @@
 //! steps keeps to the bound W + U x (E + 1); what is left after any outcome has the truth it began with.
 
 use crate::cases::entries::permitted;
-use crate::cases::formulas::{hard, random, Size, SMALL};
+use crate::cases::formulas::{hard, random, Size, MIDDLE, SMALL};
 use crate::cases::interlock::interlock;
 use crate::model::entry::Entry;
 use crate::model::formula::Formula;
@@ -28,6 +28,14 @@ pub fn check(tally: &mut Tally, seed: u64) {
                 of_kind[kind as usize] += u64::from(keeps_truth(tally, &f, truth, e));
             }
         }
+        check_run(tally, &mut rng, &f, truth);
+    }
+    // Larger ones for the verdicts alone.
+    for number in 0..300 {
+        let mut rng = Rng::of_case(seed, "verdicts", number);
+        let variables = rng.from(8, 14);
+        let f = if rng.coin() { hard(&mut rng, variables) } else { random(&mut rng, MIDDLE) };
+        let truth = is_true(&f);
         check_run(tally, &mut rng, &f, truth);
     }
     for (kind, &count) in of_kind.iter().enumerate().skip(1) {

@@ -4,14 +4,16 @@
 mod edges;
 mod laws;
 mod meaning;
+mod refusals;
 mod shortcuts;
 
 use crate::tally::Tally;
 
 pub fn selftest(seed: u64) -> i32 {
     let mut tally = Tally::default();
-    let parts: [(&str, &dyn Fn(&mut Tally)); 4] = [
+    let parts: [(&str, &dyn Fn(&mut Tally)); 5] = [
         ("checks at the edges", &edges::check),
+        ("refusals of reading", &refusals::check),
         ("shortcuts that give false verdicts", &shortcuts::check),
         ("steps and verdicts keep to the game meaning", &|tally| meaning::check(tally, seed)),
         ("the model's parts agree with each other", &|tally| laws::check(tally, seed)),
