@@ -1,0 +1,8 @@
+//! Published families, by their definitions. Each file cites its source; each function says which sizes it takes.
+
+pub mod completion;
+pub mod equality;
+pub mod kbkf;
+pub mod ordering;
+pub mod parity;
+pub mod pigeonhole;

@@ -1,0 +1,6 @@
+//! Set `solver`
+use crate::output::Entry;
+
+pub fn entries() -> Vec<Entry> {
+    Vec::new()
+}
