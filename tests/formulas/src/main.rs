@@ -12,6 +12,7 @@ mod output;
 mod random;
 mod rewrite;
 mod sets;
+mod switch;
 
 use std::process::ExitCode;
 

@@ -2,6 +2,7 @@
 
 pub mod completion;
 pub mod equality;
+pub mod impl_chain;
 pub mod kbkf;
 pub mod ordering;
 pub mod parity;

@@ -1,7 +1,7 @@
 //! Set `bench`: full-size inputs, and series of sizes n, 2n, 4n by which growth can be read off.
 
 use crate::draw::Draw;
-use crate::families::{completion, equality, kbkf, ordering, parity, pigeonhole};
+use crate::families::{completion, equality, impl_chain, kbkf, ordering, parity, pigeonhole};
 use crate::interlock::{interlock, Defect, Plan};
 use crate::ladder::ladder;
 use crate::long;
@@ -71,7 +71,7 @@ fn long_runs(entries: &mut Vec<Entry>) {
 }
 
 fn families(entries: &mut Vec<Entry>) {
-    // The true formulas are those with the universals in front, or without the first clause: the preprocessor gets further with them.
+    // The true ones: as published, or with the universals in front, or without the first clause. The preprocessor gets further with them.
     let mut siblings = Vec::new();
     for t in [63, 127, 255] {
         siblings.push((format!("kbkf_true_{t}"), "kbkf", kbkf::without_first(t)));
@@ -85,8 +85,11 @@ fn families(entries: &mut Vec<Entry>) {
     for n in [15, 21, 30] {
         siblings.push((format!("completion_true_{n}"), "completion", completion::completion(n, true)));
     }
+    for n in [63, 127, 254] {
+        siblings.push((format!("impl_{n}"), "impl", impl_chain::impl_chain(n, false)));
+    }
     for (name, family, formula) in siblings {
-        entries.push(Entry::new(name, family, Some(true), format!("{family}, changed so that it is true"), formula));
+        entries.push(Entry::new(name, family, Some(true), format!("{family}, true"), formula));
     }
     let mut add = |name: String, family, formula| {
         let says = format!("{family}, by its definition");

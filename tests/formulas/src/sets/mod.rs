@@ -2,4 +2,5 @@
 
 pub mod bench;
 pub mod public;
+pub mod published;
 pub mod solver;
