@@ -39,7 +39,11 @@ impl Draw {
     }
 
     pub fn sign(&mut self, variable: i32) -> i32 {
-        if self.chance(1, 2) { variable } else { -variable }
+        if self.chance(1, 2) {
+            variable
+        } else {
+            -variable
+        }
     }
 
     pub fn shuffle<T>(&mut self, list: &mut [T]) {

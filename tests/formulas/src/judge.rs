@@ -1,4 +1,5 @@
-//! The truth of a small formula, straight from the game meaning: a third opinion beside the preprocessor and the second solver.
+//! The truth of a small formula, straight from the game meaning: a third opinion beside the preprocessor and the second
+//! solver.
 
 use crate::formula::{Formula, Quantifier};
 

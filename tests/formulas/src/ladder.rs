@@ -1,11 +1,13 @@
-//! Ladders: forall u1 exists y1 z1 forall u2 exists y2 z2 .., with clauses between neighbouring rungs only. The innermost universal
-//! touches a few clauses, so it is expanded, its copies are resolved, and the next rung is the innermost: long runs of kinds 6 and 7.
+//! Ladders: forall u1 exists y1 z1 forall u2 exists y2 z2 .., with clauses between neighbouring rungs only. The innermost
+//! universal touches a few clauses, so it is expanded, its copies are resolved, and the next rung is the innermost: long runs
+//! of kinds 6 and 7.
 
 use crate::draw::Draw;
 use crate::formula::Formula;
 
 /// n rungs, 3n variables, `width` random clauses of three or four literals a rung. Each clause holds under a planted strategy
-/// (y follows u or its opposite, z follows y or the y above), so the formula is true; with `defect` one rung has y1 equal to u2.
+/// (y follows u or its opposite, z follows y or the y above), so the formula is true; with `defect` one rung has y1 equal to
+/// u2.
 pub fn ladder(n: usize, width: usize, defect: bool, seed: u64) -> Formula {
     let mut draw = Draw::new(seed);
     let mut formula = Formula::new();

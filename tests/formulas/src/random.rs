@@ -1,5 +1,5 @@
-//! Random formulas: of any prefix shape, and by the model of H. Chen and Y. Interian, "A Model for Generating Random Quantified
-//! Boolean Formulas", IJCAI 2005, in which each clause has a fixed number of literals from each block.
+//! Random formulas: of any prefix shape, and by the model of H. Chen and Y. Interian, "A Model for Generating Random
+//! Quantified Boolean Formulas", IJCAI 2005, in which each clause has a fixed number of literals from each block.
 
 use crate::draw::Draw;
 use crate::formula::{Formula, Quantifier};
@@ -29,13 +29,17 @@ pub fn shape(draw: &mut Draw, n: usize, blocks: usize) -> Vec<i32> {
     sizes
 }
 
-/// Clauses of `low` to `high` literals of different variables. A clause without an existential would be the empty one once it is
-/// tidied, so all but one in `bare` (0 for none) get an existential where the prefix has one.
+/// Clauses of `low` to `high` literals of different variables. A clause without an existential would be the empty one once it
+/// is tidied, so all but one in `bare` (0 for none) get an existential where the prefix has one.
 pub fn any(draw: &mut Draw, shape: &[i32], clauses: usize, low: usize, high: usize, bare: usize) -> Formula {
     let (mut formula, blocks) = prefix(shape);
     let all: Vec<i32> = blocks.concat();
-    let existentials: Vec<i32> =
-        formula.prefix.iter().filter(|block| block.quantifier == Quantifier::Exists).flat_map(|block| block.variables.clone()).collect();
+    let existentials: Vec<i32> = formula
+        .prefix
+        .iter()
+        .filter(|block| block.quantifier == Quantifier::Exists)
+        .flat_map(|block| block.variables.clone())
+        .collect();
     for _ in 0..clauses {
         let length = draw.between(low, high).min(all.len());
         let mut chosen = draw.several(&all, length);
@@ -66,7 +70,8 @@ pub fn by_blocks(draw: &mut Draw, shape: &[i32], from: &[usize], clauses: usize)
 pub fn three(draw: &mut Draw, shape: &[i32], clauses: usize) -> Formula {
     let (mut formula, blocks) = prefix(shape);
     let all: Vec<i32> = blocks.concat();
-    let universals: Vec<i32> = blocks.iter().zip(shape).filter(|(_, &size)| size < 0).flat_map(|(block, _)| block.clone()).collect();
+    let universals: Vec<i32> =
+        blocks.iter().zip(shape).filter(|(_, &size)| size < 0).flat_map(|(block, _)| block.clone()).collect();
     while formula.clauses.len() < clauses {
         let chosen = draw.several(&all, 3);
         if chosen.iter().filter(|variable| universals.contains(variable)).count() <= 1 {

@@ -1,5 +1,5 @@
-//! The same formula written otherwise: its truth stays, but numbers, places and repeats differ, so that a verdict that hangs on
-//! them shows. Every odd thing here is allowed by document 01's reading.
+//! The same formula written otherwise: its truth stays, but numbers, places and repeats differ, so that a verdict that hangs
+//! on them shows. Every odd thing here is allowed by document 01's reading.
 
 use crate::draw::Draw;
 use crate::formula::{Block, Formula};

@@ -1,12 +1,12 @@
-//! Switches: a universal that stands in every clause, in front of many existentials. Expanding it sheds a literal from each clause, so the
-//! weight falls, but the copies may pass the limit of variables: runs that end OUT OF ROOM.
+//! Switches: a universal that stands in every clause, in front of many existentials. Expanding it sheds a literal from each
+//! clause, so the weight falls, but the copies may pass the limit of variables: runs that end OUT OF ROOM.
 
 use crate::draw::Draw;
 use crate::formula::Formula;
 
-/// exists x (`outer` of them) forall u exists y (n of them, at most 560). Each literal of a y stands three times with u and three times with its
-/// opposite, so that no y is worth resolving; each x stands in place of a few. Clauses have u and five others, at most.
-/// The copies' numbers fit exactly if outer + 1 + 2n is at most 1,023.
+/// exists x (`outer` of them) forall u exists y (n of them, at most 560). Each literal of a y stands three times with u and
+/// three times with its opposite, so that no y is worth resolving; each x stands in place of a few. Clauses have u and five
+/// others, at most. The copies' numbers fit exactly if outer + 1 + 2n is at most 1,023.
 pub fn switch(outer: usize, n: usize, seed: u64) -> Formula {
     let mut draw = Draw::new(seed);
     let mut formula = Formula::new();

@@ -1,5 +1,5 @@
-//! The equality formulas: O. Beyersdorff, J. Blinkhorn, L. Hinde, "Size, Cost, and Capacity: A Semantic Technique for Hard Random
-//! QBFs", ITCS 2018. The universals must copy the x to win, and they can: false for every n.
+//! The equality formulas: O. Beyersdorff, J. Blinkhorn, L. Hinde, "Size, Cost, and Capacity: A Semantic Technique for Hard
+//! Random QBFs", ITCS 2018. The universals must copy the x to win, and they can: false for every n.
 
 use crate::formula::Formula;
 

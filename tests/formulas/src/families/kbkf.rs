@@ -1,6 +1,7 @@
 //! KBKF: H. Kleine Büning, M. Karpinski, A. Flögel, "Resolution for Quantified Boolean Formulas", Information and Computation
 //! 117(1), 1995. False for every size; Q-resolution refutations have exponential size.
-//! KBKF-LD and KBKF-QU: V. Balabanov, M. Widl, J.-H. R. Jiang, "QBF Resolution Systems and Their Proof Complexities", SAT 2014.
+//! KBKF-LD and KBKF-QU: V. Balabanov, M. Widl, J.-H. R. Jiang, "QBF Resolution Systems and Their Proof Complexities", SAT
+//! 2014.
 
 use crate::formula::Formula;
 
@@ -31,7 +32,8 @@ fn negated(literals: &[i32]) -> Vec<i32> {
     literals.iter().map(|literal| -literal).collect()
 }
 
-/// The clauses, each with `more` added to those on the d and e, and with the f to its right, if `tail`, added to each on an f.
+/// The clauses, each with `more` added to those on the d and e, and with the f to its right, if `tail`, added to each on an
+/// f.
 fn clauses(mut letters: Letters, first: bool, long: bool) -> Formula {
     let Letters { formula, d, e, x, f } = &mut letters;
     let t = d.len();

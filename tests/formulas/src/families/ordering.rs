@@ -1,4 +1,5 @@
-//! The ordering principle GT: B. Krishnamurthy, "Short Proofs for Tricky Formulas", Acta Informatica 22, 1985. All existential.
+//! The ordering principle GT: B. Krishnamurthy, "Short Proofs for Tricky Formulas", Acta Informatica 22, 1985. All
+//! existential.
 
 use crate::formula::Formula;
 

@@ -1,5 +1,6 @@
 //! QParity, LQParity and QUParity: O. Beyersdorff, L. Chew, M. Janota, "Proof Complexity of Resolution-based QBF Calculi",
-//! STACS 2015. The universal z must differ from the parity of x1 .. xn, but it is chosen after them: false for every n of 2 or more.
+//! STACS 2015. The universal z must differ from the parity of x1 .. xn, but it is chosen after them: false for every n of 2
+//! or more.
 
 use crate::formula::Formula;
 

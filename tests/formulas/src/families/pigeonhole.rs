@@ -1,4 +1,5 @@
-//! The pigeonhole principle: A. Haken, "The Intractability of Resolution", Theoretical Computer Science 39, 1985. All existential.
+//! The pigeonhole principle: A. Haken, "The Intractability of Resolution", Theoretical Computer Science 39, 1985. All
+//! existential.
 
 use crate::formula::Formula;
 

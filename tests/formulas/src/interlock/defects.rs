@@ -3,7 +3,8 @@
 use super::table::{Source, Table};
 use crate::draw::Draw;
 
-/// Three signals that can all be as `wanted` at once; under them the rows force three drives one after the other, then forbid the last.
+/// Three signals that can all be as `wanted` at once; under them the rows force three drives one after the other, then forbid
+/// the last.
 pub fn clash(table: &mut Table, draw: &mut Draw, named: &[usize], drives: &[usize]) {
     let drives: Vec<(usize, bool)> = draw.several(drives, 3).iter().map(|&at| (at, draw.chance(1, 2))).collect();
     let wanted: Vec<(usize, bool)> = loop {
@@ -24,7 +25,8 @@ pub fn clash(table: &mut Table, draw: &mut Draw, named: &[usize], drives: &[usiz
 
 /// A drive of stage 0 or 1 made equal, by way of two late drives, to a reading to its right.
 pub fn too_early(table: &mut Table, draw: &mut Draw, late: &[usize], drives: &[usize]) {
-    let readings: Vec<usize> = late.iter().copied().filter(|&at| matches!(table.signals[at].source, Source::Reading(_))).collect();
+    let readings: Vec<usize> =
+        late.iter().copied().filter(|&at| matches!(table.signals[at].source, Source::Reading(_))).collect();
     let q = table.signals[draw.pick(&readings)].variable;
     let early: Vec<usize> = drives.iter().copied().filter(|&at| table.signals[at].stage < 2).collect();
     let others: Vec<usize> = drives.iter().copied().filter(|&at| table.signals[at].stage == 2).collect();

@@ -1,7 +1,7 @@
-//! Interlock tables: for all readings, with sensors that may be stuck, is there a permitted drive pattern? Readings are universal,
-//! drives and gates existential; some drives are set before some readings come in. A table is made from a planted strategy (each drive
-//! a function of what it may see), and its rows are random clauses that the strategy always meets: so a good table is true. A defect
-//! adds a few rows that no drive pattern meets for some readings: then it is false.
+//! Interlock tables: for all readings, with sensors that may be stuck, is there a permitted drive pattern? Readings are
+//! universal, drives and gates existential; some drives are set before some readings come in. A table is made from a planted
+//! strategy (each drive a function of what it may see), and its rows are random clauses that the strategy always meets: so a
+//! good table is true. A defect adds a few rows that no drive pattern meets for some readings: then it is false.
 
 mod defects;
 mod rows;

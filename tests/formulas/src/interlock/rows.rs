@@ -4,7 +4,8 @@ use super::table::Table;
 use super::Plan;
 use crate::draw::Draw;
 
-/// The rows: clauses of two to four literals on one to three drives and the signals near them, as short as the strategy lets them be.
+/// The rows: clauses of two to five literals on one to three drives and the signals near them, as short as the strategy lets
+/// them be.
 pub fn rows(table: &mut Table, draw: &mut Draw, plan: &Plan, named: &[usize], drives: &[usize]) {
     let mut made = 0;
     let mut tries = 0;

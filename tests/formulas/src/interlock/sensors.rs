@@ -4,9 +4,18 @@ use super::table::{Source, Table};
 use super::Plan;
 use crate::draw::Draw;
 
-/// The sensors: quantities with no stuck bit, with one (the sensor shows 1, or 0, when it is stuck), or three sensors of one quantity with
-/// a stuck bit each and a vote. Given: the signals that rows may name; the last of a vote says that more than one sensor is stuck.
-pub fn sensors(table: &mut Table, draw: &mut Draw, plan: &Plan, stage: usize, universal: usize, count: usize, first: u32) -> Vec<usize> {
+/// The sensors: quantities with no stuck bit, with one (the sensor shows 1, or 0, when it is stuck), or three sensors of one
+/// quantity with a stuck bit each and a vote. Given: the signals that rows may name; the last of a vote says that more than
+/// one sensor is stuck.
+pub fn sensors(
+    table: &mut Table,
+    draw: &mut Draw,
+    plan: &Plan,
+    stage: usize,
+    universal: usize,
+    count: usize,
+    first: u32,
+) -> Vec<usize> {
     let mut named = Vec::new();
     let mut bit = first;
     let end = first + count as u32;

@@ -67,7 +67,11 @@ impl Table {
     }
 
     pub fn literal(&self, (at, plain): (usize, bool)) -> i32 {
-        if plain { self.signals[at].variable } else { -self.signals[at].variable }
+        if plain {
+            self.signals[at].variable
+        } else {
+            -self.signals[at].variable
+        }
     }
 
     /// A gate: a signal with its defining clauses (Tseitin).

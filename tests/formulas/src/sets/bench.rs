@@ -71,7 +71,8 @@ fn long_runs(entries: &mut Vec<Entry>) {
 }
 
 fn families(entries: &mut Vec<Entry>) {
-    // The true ones: as published, or with the universals in front, or without the first clause. The preprocessor gets further with them.
+    // The true ones: as published, or with the universals in front, or without the first clause. The preprocessor gets
+    // further with them.
     let mut siblings = Vec::new();
     for t in [63, 127, 255] {
         siblings.push((format!("kbkf_true_{t}"), "kbkf", kbkf::without_first(t)));
@@ -125,5 +126,9 @@ fn families(entries: &mut Vec<Entry>) {
     }
     // Renumbered over all 1,023 numbers, so that the order of the clauses and of the prefix is not that of the numbers.
     add("kbkf_255_renumbered".into(), "kbkf", rewrite::renumbered(&kbkf::kbkf(255), 1023, 9100));
-    add("qparity_511_renumbered".into(), "qparity", rewrite::renumbered(&parity::parity(511, parity::Kind::Plain, false), 1023, 9101));
+    add(
+        "qparity_511_renumbered".into(),
+        "qparity",
+        rewrite::renumbered(&parity::parity(511, parity::Kind::Plain, false), 1023, 9101),
+    );
 }

@@ -1,4 +1,5 @@
-//! Set `public`: the QBF instances that can be had from Debian's packages, number by number. The README says where was looked.
+//! Set `public`: the QBF instances that can be had from Debian's packages, number by number. The README says where was
+//! looked.
 
 use crate::families::impl_chain::impl_chain;
 use crate::formula::{Block, Formula, Quantifier};

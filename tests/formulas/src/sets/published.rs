@@ -14,7 +14,9 @@ pub fn published() -> Vec<(String, &'static str, bool, Formula)> {
         all.push((format!("kbkf_ld_{t}"), "kbkf_ld", false, kbkf::ld(t)));
         all.push((format!("kbkf_qu_{t}"), "kbkf_qu", false, kbkf::qu(t)));
     }
-    for (kind, family) in [(parity::Kind::Plain, "qparity"), (parity::Kind::Long, "lqparity"), (parity::Kind::Doubled, "quparity")] {
+    for (kind, family) in
+        [(parity::Kind::Plain, "qparity"), (parity::Kind::Long, "lqparity"), (parity::Kind::Doubled, "quparity")]
+    {
         for n in 2..=if kind == parity::Kind::Plain { 13 } else { 11 } {
             all.push((format!("{family}_{n}"), family, false, parity::parity(n, kind, false)));
             all.push((format!("{family}_true_{n}"), family, true, parity::parity(n, kind, true)));

@@ -64,8 +64,8 @@ fn judged(entries: &mut Vec<Entry>, family: &'static str, count: usize, (least, 
     }
 }
 
-/// Formulas as reading takes them but tidy writers don't write them: comments, repeats, both phases, empty clauses, split lines, prefixes of one
-/// kind, variables in no clause, formulas without clauses.
+/// Formulas as reading takes them but tidy writers don't write them: comments, repeats, both phases, empty clauses, split
+/// lines, prefixes of one kind, variables in no clause, formulas without clauses.
 fn odd(entries: &mut Vec<Entry>, count: usize) {
     for i in 0..count {
         let mut draw = Draw::new(40_000 + i as u64);
@@ -102,8 +102,14 @@ fn medium(entries: &mut Vec<Entry>, count: usize) {
         let (formula, says) = match i % 6 {
             0 => (random::by_blocks(&mut draw, &[-n, n], &[1, 2], (n + n / 4) as usize), "forall exists, (1, 2) literals"),
             1 => (random::by_blocks(&mut draw, &[-n, n], &[1, 3], (3 * n) as usize), "forall exists, (1, 3) literals"),
-            2 => (random::by_blocks(&mut draw, &[n, -n, n], &[1, 1, 2], (2 * n) as usize), "exists forall exists, (1, 1, 2) literals"),
-            3 => (random::by_blocks(&mut draw, &[n / 2, -n / 2, n], &[2, 1, 2], (3 * n) as usize), "exists forall exists, (2, 1, 2) literals"),
+            2 => (
+                random::by_blocks(&mut draw, &[n, -n, n], &[1, 1, 2], (2 * n) as usize),
+                "exists forall exists, (1, 1, 2) literals",
+            ),
+            3 => (
+                random::by_blocks(&mut draw, &[n / 2, -n / 2, n], &[2, 1, 2], (3 * n) as usize),
+                "exists forall exists, (2, 1, 2) literals",
+            ),
             4 => {
                 let blocks = draw.between(2, 9);
                 let shape = random::shape(&mut draw, 2 * n as usize, blocks);
@@ -152,8 +158,8 @@ fn ladders(entries: &mut Vec<Entry>) {
     }
 }
 
-/// Formulas at the edge of the room for an expansion: with 511 existentials and one in front the result would have 1,023 variables, but a copy
-/// would be numbered 1,024.
+/// Formulas at the edge of the room for an expansion: with 511 existentials and one in front the result would have 1,023
+/// variables, but a copy would be numbered 1,024.
 fn switches(entries: &mut Vec<Entry>) {
     for (outer, n) in [(0, 511), (0, 512), (1, 510), (1, 511), (2, 510), (3, 510), (1, 530), (1, 560)] {
         let says = format!("a universal in every clause, {outer} existentials in front, {n} behind");
@@ -162,7 +168,8 @@ fn switches(entries: &mut Vec<Entry>) {
     }
 }
 
-/// Full-size inputs of set `bench`, as far as the second solver decides them, or what the preprocessor leaves of them, at once.
+/// Full-size inputs of set `bench`, as far as the second solver decides them, or what the preprocessor leaves of them, at
+/// once.
 fn large(entries: &mut Vec<Entry>) {
     let names = [
         "interlock_14r_120d_100g",
