@@ -46,7 +46,7 @@ END {
     printf form, "family", "formulas", "true", "false", "settled", "finished", "no room", "stopped", "failed", "variables", \
         "clauses", "literals"
     for (i = 1; i <= families; i++) row(order[i])
-    print "settled: prep gave the verdict; finished, no room, stopped: left to depqbf; the last three: what prep left of the input"
+    print "settled: prep gave the verdict; finished, no room, stopped: left to depqbf; the last three: what prep left of it"
     printf "of the formulas left to depqbf prep left %s of the variables, %s of the clauses and %s of the literals\n", \
         part("variables", " left"), part("clauses", " left"), part("literals", " left")
 }

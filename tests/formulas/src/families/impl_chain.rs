@@ -5,7 +5,7 @@ use crate::formula::Formula;
 
 /// a implies b is split at c, by a universal, into a implies c and c implies b, n times; at the end a must imply b, and the
 /// first a is true. True, by all existentials true. With `broken` the first b is false: then some split has a true a and a
-/// false b to the end, so it is false. n from 1 to 254. With n = 2 and not broken it is impl02, number by number.
+/// false b to the end, so it is false. n from 1 to 255. With n = 2 and not broken it is impl02, number by number.
 pub fn impl_chain(n: usize, broken: bool) -> Formula {
     let mut formula = Formula::new();
     let mut letters = formula.exists(3);

@@ -86,7 +86,7 @@ fn families(entries: &mut Vec<Entry>) {
     for n in [15, 21, 30] {
         siblings.push((format!("completion_true_{n}"), "completion", completion::completion(n, true)));
     }
-    for n in [63, 127, 254] {
+    for n in [63, 127, 255] {
         siblings.push((format!("impl_{n}"), "impl", impl_chain::impl_chain(n, false)));
     }
     for (name, family, formula) in siblings {
