@@ -66,7 +66,7 @@ unfolding logBytes
 log-append [] ds = refl
 log-append (e ∷ es) ds = ap (λ (l : List ℕ). entryBytes e ++ l) (log-append es ds) ∙ sym (append-assoc (entryBytes e) (logBytes es) (logBytes ds))
 
-log-length : (es : List ℕ) → length (logBytes es) ≡ 4 * length es
+pub log-length : (es : List ℕ) → length (logBytes es) ≡ 4 * length es
 unfolding logBytes entryBytes
 log-length [] = refl
 log-length (e ∷ es) = omega (arith, log-length es)

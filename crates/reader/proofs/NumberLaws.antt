@@ -1,16 +1,18 @@
--- The answer has the number of the definition's refusal, and 0 for a formula: reading gives no other numbers than document 01.
+-- A text is refused for what stands in it with document 01's numbers 3 to 9 and no other, and the answer has the number.
 -- Assumes nothing.
-use mathlib.Core.Path.{_≡_, refl}
+use mathlib.Core.Path.{_≡_, refl, sym, _∙_, subst}
 use mathlib.Core.Bool.{Bool, true, false, cond}
 use mathlib.Core.List.{List, [], _∷_, _++_}
 use mathlib.Core.Option.{Option, none, some}
-use Prim.Native.Nat.{ℕ}
+use Prim.Native.Nat.{ℕ, _≤_}
+use native.Mathlib.Omega.{arith}
+use borrow.Author.Tests.{le-ltb}
 use lib.Dec.{ltb, eqb}
 use lib.ListN.{length}
 use Rattle.qdimacs.specs.Read as qdimacs
 use Rattle.meaning.specs.Formula.{plain, negated, var}
 use Rattle.meaning.specs.WellFormed.{maxVariables, maxClauses, maxText}
-use Rattle.qdimacs.specs.Faults.{LENGTH, SYNTAX, SHORT, RANGE, TWICE, UNBOUND, COUNT, TOO-BIG}
+use Rattle.qdimacs.specs.Faults.{SYNTAX, SHORT, RANGE, TWICE, UNBOUND, COUNT, TOO-BIG}
 use Rattle.qdimacs.specs.Bytes.{Token, tokens}
 use Rattle.qdimacs.specs.Words.{wordOf, plainOf, literalOf}
 use Rattle.qdimacs.specs.Decide.{onP, onCnf, onM, onC, onVariable, onLiteral, onLine, decide}
@@ -21,45 +23,41 @@ use Rattle.qdimacs.specs.declared.Phase.{Phase}
 use Rattle.qdimacs.specs.declared.Phase.the-variants.{AtP, AtCnf, AtM, AtC, Line, Open, Vars, Clause, Full}
 use Rattle.qdimacs.specs.declared.Move.{Move}
 use Rattle.qdimacs.specs.declared.Move.the-variants.{Fault, Go, SetM, SetC, Entry, Literal, Close}
-use Rattle.reader.specs.Reading.{readNumber, answerFor, refusal, readingFor}
+use Rattle.reader.specs.Reading.{readNumber, answerFor}
 use Rattle.reader.proofs.TrackLaws.{closing}
 
--- k is the number of an answer that is a refusal
-abbrev Known : ℕ → Type 0
-Known k = readNumber (answerFor k) ≡ k
+-- k is the number of an answer that refuses a text for what stands in it: 3 or more
+abbrev pub Known : ℕ → Type 0
+Known k = (readNumber (answerFor k) ≡ k) × (3 ≤ k)
 
 module _ where
-  known-length : Known LENGTH
-  unfolding readNumber answerFor
-  known-length = refl
-
   known-syntax : Known SYNTAX
   unfolding readNumber answerFor
-  known-syntax = refl
+  known-syntax = (refl, omega arith)
 
   known-short : Known SHORT
   unfolding readNumber answerFor
-  known-short = refl
+  known-short = (refl, omega arith)
 
   known-range : Known RANGE
   unfolding readNumber answerFor
-  known-range = refl
+  known-range = (refl, omega arith)
 
   known-twice : Known TWICE
   unfolding readNumber answerFor
-  known-twice = refl
+  known-twice = (refl, omega arith)
 
   known-unbound : Known UNBOUND
   unfolding readNumber answerFor
-  known-unbound = refl
+  known-unbound = (refl, omega arith)
 
   known-count : Known COUNT
   unfolding readNumber answerFor
-  known-count = refl
+  known-count = (refl, omega arith)
 
   known-big : Known TOO-BIG
   unfolding readNumber answerFor
-  known-big = refl
+  known-big = (refl, omega arith)
 
 abbrev KnownMove : Move → Type 0
 KnownMove (Fault k) = Known k
@@ -160,31 +158,24 @@ tokens-known [] r h = h
 tokens-known (t ∷ ts) (faulty k at) h = h
 tokens-known (t ∷ ts) (reads s) h = tokens-known ts (onToken s t) (act-known s (t .at) _ (decide-known (s .phase) (s .m) (s .c) _ (wordOf (t .bytes))))
 
--- the number of the definition's answer
-unfoldable pub numberOf : qdimacs.Answer → ℕ
-numberOf (fault k at) = k
-numberOf (good φ) = 0
+-- what is given for a text
+abbrev KnownAnswer : qdimacs.Answer → Type 0
+KnownAnswer (fault k at) = Known k
+KnownAnswer (good φ) = Unit {0}
 
-abbrev Agrees : qdimacs.Answer → Type 0
-Agrees x = readNumber (readingFor x .answer) ≡ numberOf x
-
-fault-agrees : (k at : ℕ) → Known k → Agrees (fault k at)
-unfolding readingFor refusal numberOf
-fault-agrees k at h = h
-
-finish-agrees : (n : ℕ) (r : qdimacs.Reading) → KnownReading r → Agrees (tidiedAnswer (finish n r))
+finish-known : (n : ℕ) (r : qdimacs.Reading) → KnownReading r → KnownAnswer (tidiedAnswer (finish n r))
 unfolding finish tidiedAnswer
-finish-agrees n (faulty k at) h = fault-agrees k at h
-finish-agrees n (reads s) h = go (complete (s .phase) (s .c))
+finish-known n (faulty k at) h = h
+finish-known n (reads s) h = go (complete (s .phase) (s .c))
   where
-    go : (b : Bool) → Agrees (tidiedAnswer (cond b (good (record { prefix = s .prefix; clauses = s .clauses })) (fault SHORT n)))
-    go true = unfold readingFor readNumber numberOf in refl
-    go false = fault-agrees SHORT n known-short
+    go : (b : Bool) → KnownAnswer (tidiedAnswer (cond b (good (record { prefix = s .prefix; clauses = s .clauses })) (fault SHORT n)))
+    go true = tt
+    go false = known-short
 
-pub read-number : (text : List ℕ) → readNumber (readingFor (read text) .answer) ≡ numberOf (read text)
+-- a text that is not too long is refused with one of these numbers, and the answer has it
+pub fault-known : (text : List ℕ) → length text ≤ maxText → (k at : ℕ) → read text ≡ fault k at → Known k
 unfolding read asWritten
-read-number text = go (ltb maxText (length text))
-  where
-    go : (b : Bool) → Agrees (tidiedAnswer (cond b (fault LENGTH 0) (finish (length text) (onTokens (reads start) (tokens text)))))
-    go true = unfold tidiedAnswer in fault-agrees LENGTH 0 known-length
-    go false = finish-agrees (length text) (onTokens (reads start) (tokens text)) (tokens-known (tokens text) (reads start) tt)
+fault-known text l k at h =
+    let x : qdimacs.Reading = onTokens (reads start) (tokens text) in
+    let e : read text ≡ tidiedAnswer (finish (length text) x) = rw (le-ltb maxText (length text) l) in
+    subst KnownAnswer (sym e ∙ h) (finish-known (length text) x (tokens-known (tokens text) (reads start) tt))

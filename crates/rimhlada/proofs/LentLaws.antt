@@ -26,7 +26,7 @@ use Rattle.writer.proofs.RoundTrip.{given-good, good-given}
 
 -- Before: the table that the record names holds a well formed formula, and both have the right length ----------
 module _ (a b : List ℕ) (c : Counts) (s : Asked) (q : s ≡ asked a b c) (g : s ≡ said.Given) where
-  right : rightLengths a b ≡ true
+  pub right : rightLengths a b ≡ true
   unfolding asked
   right =
       by-cases (rightLengths a b) (λ l. l)

@@ -14,16 +14,18 @@ use Rattle.meaning.specs.Formula.{Formula}
 use Rattle.meaning.specs.WellFormed.{maxText}
 use Rattle.qdimacs.specs.Read.{fault, good, read}
 use Rattle.qdimacs.specs.Faults.{LENGTH}
-use Rattle.table.specs.Table.{emptyFormula, tableOf, countsOf, decode, Holds}
+use Rattle.table.specs.Table.{countsOf, decode, Holds}
 use Rattle.table.specs.Check.{named, rightLengths, goodTable}
 use Rattle.table.specs.declared.Counts.{Counts}
-use Rattle.reader.specs.Reading.{readingFor, lengthsRight, readingOf, tableFor, firstAfter, secondAfter, Reads}
+use Rattle.reader.specs.Reading.{readNumber, readingFor, lengthsRight, readingOf, tableFor, firstAfter, secondAfter, Reads}
 use Rattle.reader.specs.declared.Reading.{Reading}
 use Rattle.writer.specs.Written.{Wrote}
 use Rattle.writer.specs.declared.Writing.{Writing}
+use Rattle.rimhlada.specs.Demands.{ReadBack}
 use Rattle.meaning.proofs.Basics.{by-cases, and-l}
 use Rattle.qdimacs.proofs.Faults.{too-long}
 use Rattle.table.proofs.GoodLaws.{true-holds}
+use Rattle.table.proofs.TableLaws.{table-empty}
 use Rattle.writer.proofs.RoundTrip.{wrote-good, wrote-reads}
 
 -- a text that is read is not too long
@@ -39,16 +41,10 @@ holds : (t : List ℕ) (c : Counts) → goodTable t c ≡ true → Holds (decode
 unfolding goodTable
 holds t c g = true-holds t c (search and-l)
 
--- Written from the table that the record c names, and read into two tables of the right length, whatever they hold.
-pub record ReadBack (t : List ℕ) (c : Counts) (q : Reading) (first second : List ℕ) : Type 0 where
-  pub answer : q ≡ record { answer = reads.Read; offset = 0; counts = record { variables = c .variables; clauses = c .clauses; literals = c .literals; second = false } }
-  pub first-table : first ≡ t
-  pub second-table : second ≡ tableOf emptyFormula
-
 pub read-back : (first second : List ℕ) (c : Counts) (out : List ℕ) (r : Writing) (after : List ℕ) → Wrote first second c out r after
     → r .answer ≡ says.Written → (a b : List ℕ) → rightLengths a b ≡ true → (q : Reading) (a′ b′ : List ℕ) → Reads (take (r .bytes) after) a b q a′ b′
     → ReadBack (named first second c) c q a′ b′
-unfolding readingOf firstAfter secondAfter lengthsRight readingFor tableFor countsOf
+unfolding readingOf firstAfter secondAfter lengthsRight readingFor tableFor countsOf readNumber
 read-back first second c out r after w e a b l q a′ b′ x =
     let t : List ℕ = named first second c in
     let text : List ℕ = take (r .bytes) after in
@@ -57,8 +53,10 @@ read-back first second c out r after w e a b l q a′ b′ x =
     let n : leb (length text) maxText ≡ true = not-long text (decode t c) h in
     let m : countsOf (decode t c) false ≡ record { variables = c .variables; clauses = c .clauses; literals = c .literals; second = false } =
     sym (ap (λ (d : Counts). record { variables = d .variables; clauses = d .clauses; literals = d .literals; second = false }) (k .counts)) in
+    let z : q ≡ record { answer = reads.Read; offset = 0; counts = countsOf (decode t c) false } = x .answer ∙ rw (l, n, h) in
     record {
-      answer = x .answer ∙ rw (l, n, h) (ap (λ (d : Counts). record { answer = reads.Read; offset = 0; counts = d }) m);
-      first-table = x .first ∙ rw (l, n, h) (sym (k .table));
-      second-table = x .second ∙ rw (l, n);
+      read-again = ap (λ (y : Reading). readNumber (y .answer)) z;
+      counts = ap (λ (y : Reading). y .counts) z ∙ m;
+      first = x .first ∙ rw (l, n, h) (sym (k .table));
+      second = x .second ∙ rw (l, n) (sym table-empty);
     }

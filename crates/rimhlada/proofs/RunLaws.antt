@@ -1,11 +1,9 @@
 -- The ways out of a run: refused, or as the run between the tables says.
 -- Assumes nothing.
 use mathlib.Core.Path.{_≡_, refl, sym, ap, _∙_}
-use mathlib.Core.Bool.{true, false}
 use mathlib.Core.List.{List}
 use Prim.Native.Nat.{ℕ, _<_, _≤_}
 use borrow.Author.Tests.{le-leb, lt-leb}
-use lib.Dec.{leb}
 use lib.ListN.{length}
 use Rattle.table.specs.declared.Asked.the-variants as said
 use Rattle.rimhlada.specs.declared.runs.RunAnswer.the-variants as says
@@ -14,10 +12,10 @@ use Rattle.rules.specs.Run.{isTRUE, isFALSE, finished, outOfRoom, ended, stoppe
 use Rattle.table.specs.Check.{asked}
 use Rattle.table.specs.declared.Counts.{Counts}
 use Rattle.table.specs.declared.Asked.{Asked}
-use Rattle.course.specs.Course.{outcomeAs, sideFrom, RanAs}
+use Rattle.course.specs.Course.{outcomeAs, RanAs}
 use Rattle.course.specs.declared.Running.{Running}
 use Rattle.rimhlada.specs.Standing.{formulaIn, firstFor, secondFor}
-use Rattle.rimhlada.specs.Running.{outcomeAnswer, Heard, runs, refuses, heardOf, heardFor, ranFor, firstRan, secondRan, logRan, heardIn, runIn, Runs, answerBack, ranBack}
+use Rattle.rimhlada.specs.Running.{outcomeAnswer, runs, refuses, heardOf, heardFor, ranFor, firstRan, secondRan, logRan, heardIn, runIn, Runs, answerBack, ranBack}
 use Rattle.rimhlada.specs.declared.runs.RunAnswer.{RunAnswer}
 use Rattle.rimhlada.specs.declared.runs.Ran.{Ran}
 
