@@ -30,6 +30,21 @@ pub fn near(rng: &mut Rng, f: &Formula, kind: u32) -> Entry {
     }
 }
 
+/// A permitted entry with one thing about it changed: a and b the other way around, another kind, one more or one less.
+pub fn beside(rng: &mut Rng, good: Entry) -> Entry {
+    let mut e = good;
+    match rng.below(5) {
+        0 | 1 => (e.a, e.b) = (good.b, good.a),
+        2 => e.kind = rng.from(1, 7) as u32,
+        3 => e.a = (good.a + 1) % 2048,
+        _ => e.b = (good.b + 1) % 2048,
+    }
+    if !uses_b(e.kind) {
+        e.b = 0;
+    }
+    e
+}
+
 /// Permitted entries of the kind: all of them for a small formula, some of them for a large one.
 pub fn permitted(f: &Formula, kind: u32) -> Vec<Entry> {
     let clauses: Vec<u32> = (0..f.clauses.len() as u32).collect();

@@ -1,6 +1,7 @@
 //! Formulas that fill a table: as many variables, clauses or literals as there can be.
 
-use super::formulas::{literal, of_raw, regular};
+use super::formulas::{literal, of_raw};
+use super::regular::regular;
 use crate::model::formula::{exists, forall, negated, plain, Bound, Clause, Formula};
 use crate::rng::Rng;
 

@@ -9,5 +9,7 @@ pub mod groups;
 pub mod interlock;
 pub mod lent;
 pub mod malformed;
+pub mod regular;
+pub mod room;
 pub mod text_edges;
 pub mod texts;

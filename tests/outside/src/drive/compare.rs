@@ -128,7 +128,11 @@ impl Session {
         let path = self.kept.join(name);
         let written = std::fs::create_dir_all(&self.kept).and_then(|()| std::fs::write(&path, shown::hex(&encode_call(call))));
         println!("DIFFERENCE: seed {}, {}, case {number}: {what}", self.options.seed, group.name);
-        println!(" the call{}:\n{}", written.map_or(String::new(), |()| format!(" (as hex in {})", path.display())), shown::call(call));
+        println!(
+            " the call{}:\n{}",
+            written.map_or(String::new(), |()| format!(" (as hex in {})", path.display())),
+            shown::call(call)
+        );
         println!(" the program's result:\n{}", got.map_or("  none".to_string(), shown::reply));
         println!(" the model's result:\n{}", shown::reply(wanted));
     }

@@ -3,7 +3,7 @@
 use super::shown;
 use crate::cases::formulas::{self, MIDDLE, SMALL, WIDE};
 use crate::cases::interlock::interlock;
-use crate::cases::{bounds, text_edges, texts};
+use crate::cases::{room, text_edges, texts};
 use crate::model::face::program;
 use crate::model::writing::write;
 use crate::rng::Rng;
@@ -66,8 +66,8 @@ fn all_texts(seed: u64) -> Vec<Vec<u8>> {
             }
         });
     }
-    list.push(write(&bounds::resolve_out_of_clauses(&mut stream(1000), 2047)));
-    list.push(write(&bounds::resolve_out_of_literals(&mut stream(1001), 8191)));
+    list.push(write(&room::resolve_out_of_clauses(&mut stream(1000), 2047)));
+    list.push(write(&room::resolve_out_of_literals(&mut stream(1001), 8191)));
     list
 }
 

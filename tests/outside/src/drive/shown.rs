@@ -20,8 +20,7 @@ pub fn bytes(bytes: &[u8]) -> String {
 
 /// A table by its length, its formula if it holds one, and its numbers that are not zero.
 fn table(table: &[u16], record: &Record, side: usize) -> String {
-    let used: Vec<String> =
-        table.iter().enumerate().filter(|(_, &n)| n != 0).take(60).map(|(i, n)| format!("{i}:{n}")).collect();
+    let used: Vec<String> = table.iter().enumerate().filter(|(_, &n)| n != 0).take(60).map(|(i, n)| format!("{i}:{n}")).collect();
     let count = table.iter().filter(|&&n| n != 0).count();
     let mut out = format!("length {}, {count} numbers not zero: {}", table.len(), used.join(" "));
     if count > 60 {

@@ -1,6 +1,5 @@
 //! The run's choice at one point: the verdict, or the step to take, or why none is left. Written with occurrence lists, so
-//! that formulas of some hundred clauses take little time; `plain_choice` tries every entry as the document says it and is
-//! compared with it by the self test.
+//! that formulas of some hundred clauses take little time; the self test compares it with `plain_choice`.
 
 use super::entry::{entry, Entry};
 use super::formula::{negated, opposite, plain, var, Clause, Formula, Lit};
@@ -15,7 +14,9 @@ pub enum Choice {
     /// The step to take and its result.
     Take(Entry, Formula),
     /// No candidate. Did a kind 6 or 7 step fail only for room?
-    Nothing { for_room: bool },
+    Nothing {
+        for_room: bool,
+    },
 }
 
 /// What stands at this point with allowance E.
@@ -27,11 +28,8 @@ pub fn choice(f: &Formula, allowance: u64) -> Choice {
         return Choice::True;
     }
     let at = Occurrences::of(f);
-    let light = unit(f)
-        .or_else(|| pure(f, &at))
-        .or_else(|| subsume(f, &at))
-        .or_else(|| strengthen(f, &at))
-        .or_else(|| equality(f));
+    let light =
+        unit(f).or_else(|| pure(f, &at)).or_else(|| subsume(f, &at)).or_else(|| strengthen(f, &at)).or_else(|| equality(f));
     if let Some(e) = light {
         let result = whole(f, e).expect("a candidate is permitted");
         return Choice::Take(e, result);
@@ -168,39 +166,4 @@ fn expand_candidates(f: &Formula, allowance: u64) -> Vec<Weighed> {
         }
     }
     list
-}
-
-/// The choice by trying every entry there could be for this formula. For small formulas.
-pub fn plain_choice(f: &Formula, allowance: u64) -> Choice {
-    if f.clauses.iter().any(|c| c.is_empty()) {
-        return Choice::False;
-    }
-    if f.clauses.is_empty() {
-        return Choice::True;
-    }
-    let n = f.clauses.len() as u32;
-    let mut for_room = false;
-    for kind in 1..=7 {
-        let entries: Vec<Entry> = match kind {
-            1 => (0..n).map(|a| entry(1, a, 0)).collect(),
-            3..=5 => (0..n).flat_map(|a| (0..n).map(move |b| entry(kind, a, b))).collect(),
-            _ => f.prefix.iter().map(|b| entry(kind, b.var, 0)).collect(),
-        };
-        let permitted = entries.into_iter().filter_map(|e| whole(f, e).map(|result| (e, result)));
-        if kind <= 5 {
-            if let Some((e, result)) = permitted.into_iter().next() {
-                return Choice::Take(e, result);
-            }
-            continue;
-        }
-        let rise = if kind == 6 { -1 } else { allowance as i64 };
-        let (fit, unfit): (Vec<_>, Vec<_>) =
-            permitted.filter(|(_, r)| r.weight() as i64 - f.weight() as i64 <= rise).partition(|(_, r)| r.fits());
-        // `min_by_key` takes the first of equals: the leftmost.
-        if let Some((e, result)) = fit.into_iter().min_by_key(|(_, r)| r.weight()) {
-            return Choice::Take(e, result);
-        }
-        for_room |= !unfit.is_empty();
-    }
-    Choice::Nothing { for_room }
 }

@@ -6,6 +6,8 @@ pub mod entry;
 pub mod face;
 pub mod formula;
 pub mod limits;
+pub mod numeral;
+pub mod plain_choice;
 pub mod reading;
 pub mod run;
 pub mod steps;

@@ -38,9 +38,7 @@ pub fn encode(f: &Formula) -> Vec<u16> {
 /// The formula of a table and its counts, if they are a well formed one. The table is 11,261 long.
 pub fn decode(table: &[u16], counts: &Counts) -> Option<Formula> {
     assert!(table.len() == TABLE);
-    let within = counts.variables <= VARIABLES as u64
-        && counts.clauses <= CLAUSES as u64
-        && counts.literals <= LITERALS as u64;
+    let within = counts.variables <= VARIABLES as u64 && counts.clauses <= CLAUSES as u64 && counts.literals <= LITERALS as u64;
     if !within {
         return None;
     }

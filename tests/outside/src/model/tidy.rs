@@ -22,9 +22,7 @@ pub fn is_tidy(clause: &[Lit], places: &Places) -> bool {
     vars.sort_unstable();
     let once = vars.windows(2).all(|pair| pair[0] != pair[1]);
     let last = last_existential(clause, places);
-    once && clause
-        .iter()
-        .all(|&l| places.is_existential(var(l)) || last.is_some_and(|place| places.place(var(l)) < place))
+    once && clause.iter().all(|&l| places.is_existential(var(l)) || last.is_some_and(|place| places.place(var(l)) < place))
 }
 
 fn last_existential(clause: &[Lit], places: &Places) -> Option<usize> {

@@ -3,8 +3,9 @@
 
 use crate::cases::entries::permitted;
 use crate::cases::formulas::{hard, random, MIDDLE, SMALL, WIDE};
-use crate::model::choice::{choice, plain_choice, Choice};
+use crate::model::choice::{choice, Choice};
 use crate::model::formula::Formula;
+use crate::model::plain_choice::plain_choice;
 use crate::model::reading::read;
 use crate::model::steps::whole;
 use crate::model::table::{counts, decode, encode};

@@ -11,11 +11,8 @@ pub fn equality(f: &Formula, a: usize, b: usize) -> Option<Formula> {
         return None;
     }
     let places = f.places();
-    let (left, right) = if places.place(var(first[0])) < places.place(var(first[1])) {
-        (first[0], first[1])
-    } else {
-        (first[1], first[0])
-    };
+    let (left, right) =
+        if places.place(var(first[0])) < places.place(var(first[1])) { (first[0], first[1]) } else { (first[1], first[0]) };
     // (left or right) and (not left or not right): right equals not left.
     let replaced = |l: Lit| {
         if l == right {

@@ -36,8 +36,7 @@ pub fn expand(f: &Formula, u: Var) -> Option<Formula> {
     }
     for clause in &inner {
         if let Some(rest) = with_false(clause, negated(u)) {
-            let renamed: Vec<Lit> =
-                rest.iter().map(|&l| copies.get(&var(l)).map_or(l, |&copy| plain(copy) + l % 2)).collect();
+            let renamed: Vec<Lit> = rest.iter().map(|&l| copies.get(&var(l)).map_or(l, |&copy| plain(copy) + l % 2)).collect();
             clauses.push_tidied(tidy(&renamed, &new_places));
         }
     }

@@ -30,9 +30,8 @@ fn is_permitted(f: &Formula, places: &Places, x: Var, with: &[&Clause]) -> bool 
         return false;
     }
     let first_universal = (place + 1..f.prefix.len()).find(|&i| !f.prefix[i].is_existential());
-    first_universal.is_none_or(|universal| {
-        with.iter().all(|c| c.iter().all(|&l| var(l) == x || places.place(var(l)) < universal))
-    })
+    first_universal
+        .is_none_or(|universal| with.iter().all(|c| c.iter().all(|&l| var(l) == x || places.place(var(l)) < universal)))
 }
 
 /// All resolvents in order, equal ones among them. `places` is of a prefix that may still hold x: no resolvent does.

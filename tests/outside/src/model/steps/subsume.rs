@@ -20,9 +20,7 @@ pub fn strengthen(f: &Formula, a: usize, b: usize) -> Option<Formula> {
     let (first, second) = (f.clauses.get(a)?, f.clauses.get(b)?);
     let places = f.places();
     let leaves = first.iter().copied().find(|&l| {
-        places.is_existential(var(l))
-            && second.contains(&opposite(l))
-            && first.iter().all(|&m| m == l || second.contains(&m))
+        places.is_existential(var(l)) && second.contains(&opposite(l)) && first.iter().all(|&m| m == l || second.contains(&m))
     })?;
     let mut clauses = Building::default();
     for (i, clause) in f.clauses.iter().enumerate() {

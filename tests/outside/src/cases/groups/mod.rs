@@ -1,0 +1,65 @@
+//! The groups of cases: a name, how many, and how one is made from its random stream and its number.
+
+mod lent;
+mod read;
+mod replay;
+mod run;
+mod shared;
+mod step;
+
+use super::text_edges;
+use crate::model::face::Call;
+use crate::rng::Rng;
+use lent::{full_tables, literals, no_formula, one_field_wrong, write_buffer, wrong_lengths};
+use read::{read_babble, read_clean, read_damaged, read_edge, read_long};
+use replay::{replay_bound, replay_damaged, replay_long, replay_random, replay_run};
+use run::{
+    run_allowance, run_folding, run_full, run_growing, run_hard, run_interlock, run_random, run_regular, run_room, run_short,
+    run_wide,
+};
+use step::{step_bad, step_bound, step_folding, step_near, step_permitted, step_wide, BOUNDS};
+
+pub struct Group {
+    pub name: &'static str,
+    pub count: usize,
+    pub make: fn(&mut Rng, usize) -> Call,
+}
+
+pub fn groups() -> Vec<Group> {
+    let group = |name, count, make| Group { name, count, make };
+    vec![
+        group("read: short texts at the edges", text_edges::SHORT_TEXTS.len(), read_edge as fn(&mut Rng, usize) -> Call),
+        group("read: long texts at the limits", text_edges::long_texts().len(), read_long),
+        group("read: texts that read", 500, read_clean),
+        group("read: damaged texts", 2500, read_damaged),
+        group("read: words in any order", 800, read_babble),
+        group("write: buffers long enough and not", 500, write_buffer),
+        group("literals", 200, literals),
+        group("all but read: one field wrong", 1600, one_field_wrong),
+        group("all but read: random tables and counts", 300, no_formula),
+        group("all: wrong lengths", 300, wrong_lengths),
+        group("step: permitted entries", 2000, step_permitted),
+        group("step: near misses", 2000, step_near),
+        group("step: bad entries and random ones", 500, step_bad),
+        group("step: wider formulas", 150, step_wide),
+        group("step: results at the limits", BOUNDS.len() * 3, step_bound),
+        group("step: many equal clauses in the result", 60, step_folding),
+        group("all but read: full tables", 120, full_tables),
+        group("run: random formulas", 1500, run_random),
+        group("run: harder formulas", 600, run_hard),
+        group("run: many equal clauses in the result", 60, run_folding),
+        group("run: regular formulas with universals", 200, run_regular),
+        group("run: interlocks", 150, run_interlock),
+        group("run: limits and logs that are short", 600, run_short),
+        group("run: wider formulas", 40, run_wide),
+        group("run: allowances at the edge", 200, run_allowance),
+        group("run: only room is missing", 9, run_room),
+        group("run: formulas that grow", 12, run_growing),
+        group("run: full tables", 15, run_full),
+        group("replay: logs of runs", 400, replay_run),
+        group("replay: permitted entries in a row", 500, replay_random),
+        group("replay: long logs", 10, replay_long),
+        group("replay: damaged logs", 600, replay_damaged),
+        group("replay: results at the limits", BOUNDS.len(), replay_bound),
+    ]
+}
