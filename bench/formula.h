@@ -246,6 +246,19 @@ class Formula {
   public:
     bool reading = true;  // while the clauses are read all of them are marked
 
+    // As if nothing had been looked at before.
+    void lookAfresh() {
+        for (std::size_t i = 0; i < prefix.size(); i++)
+            if (prefix[i] != 0) lone.set(i);
+        for (std::size_t s = 0; s < slots.size(); s++) {
+            if (!slots[s].live) continue;
+            subsumers.set(s);
+            strengtheners.set(s);
+            if (clause(int(s)).size() == 2) pairs.set(s);
+        }
+        for (Cost& k : cost) k.known = false;
+    }
+
     // A quick test that passes if the variables of clause a are among those of b.
     bool mayBePart(int a, int b) const {
         return (slots[a].signature & ~slots[b].signature) == 0 && slots[a].lits.size() <= slots[b].lits.size();

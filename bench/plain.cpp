@@ -1,5 +1,7 @@
 // The baseline: document 01's program in plain C++. It reads QDIMACS on standard input, runs with E = 0, limit and log of 8,192
 // entries, and prints the outcome, the number of steps and the formula that is left. Nothing of it is proved.
+// It looks for each step among all clauses, by occurrence lists, signatures and hash sets. With the argument `remember` it looks
+// only at what may have changed since the step before: no longer plain, but the mark to aim at.
 #include <cstdio>
 #include <iterator>
 
@@ -322,8 +324,9 @@ Taken step(Formula& f, bool go) {
     return Taken::Step;
 }
 
-const char* run(Formula& f, int& steps) {
+const char* run(Formula& f, bool remember, int& steps) {
     for (steps = 0;; steps++) {
+        if (!remember) f.lookAfresh();
         if (f.emptyClause) return "FALSE";
         if (f.clauses == 0) return "TRUE";
         Taken t = step(f, steps < limit);
@@ -335,16 +338,17 @@ const char* run(Formula& f, int& steps) {
 
 }  // namespace
 
-int main() {
+int main(int argc, char** argv) {
     std::string text(maxText + 1, '\0'), out;
     text.resize(std::fread(text.data(), 1, text.size(), stdin));
+    bool remember = argc > 1 && std::string(argv[1]) == "remember";
     Formula f;
     Reader reader(text, f);
     if (Refusal r = reader.read()) {
         out = "r " + std::to_string(r) + " " + std::to_string(reader.offset) + "\n";
     } else {
         int steps;
-        const char* outcome = run(f, steps);
+        const char* outcome = run(f, remember, steps);
         out = std::string("c ") + outcome + " " + std::to_string(steps) + "\n";
         writeFormula(f, out);
     }
