@@ -3,32 +3,16 @@
 use Prim.Native.Nat.{ℕ, zero, suc, _+_, _*_, _-_, _%_, _≤_, _<_}
 use mathlib.Core.Path.{_≡_, refl, sym, ap, _∙_}
 use mathlib.Core.Bool.{Bool, true, false, cond}
-use mathlib.Core.List.{List, [], _∷_, _++_}
+use mathlib.Core.List.{List, [], _∷_, _++_, foldl}
 use native.Mathlib.Omega.{arith}
-use native.Mathlib.Numerals.{add-one}
 use lib.Dec.{eqb}
-use lib.ListN.{length, getD, drop, drop-of-length-le, List·getD-append}
-use lib.Seq.{drop-cons, getD-append-seam}
+use lib.ListN.{length, List·getD-append}
+use lib.Seq.{getD-append-seam}
 use Rattle.meaning.proofs.Basics.{eqb-true}
-use Rattle.marks.specs.Marks.{slots, slotOn, slotFrom, slotOf, slotAt, lastIn}
+use Rattle.marks.specs.Marks.{slots, slotOn, slotOf, slotAt, lastIn}
 
--- A loop over the literals -----------------------------------------------------------------------------------
--- at index i the slot is computed from h and the literals that are left
-module _ (c : List ℕ) (i h : ℕ) (inv : slotOf c ≡ slotFrom h (drop i c)) where
-  pub slot-turn : i < length c → slotOf c ≡ slotFrom ((h * 5689 + getD c i 0) % slots) (drop (i + 1) c)
-  unfolding slotFrom slotOn
-  slot-turn k = inv ∙ rw (add-one, drop-cons c i 0)
-
-  pub slot-end : length c ≤ i → h ≡ slotOf c
-  unfolding slotFrom
-  slot-end k = sym (inv ∙ rw (drop-of-length-le c {i = i} k))
-
-pub slot-start : (c : List ℕ) → slotOf c ≡ slotFrom 0 (drop 0 c)
-unfolding slotOf
-slot-start c = refl
-
-from-small : (h : ℕ) (c : List ℕ) → h < slots → slotFrom h c < slots
-unfolding slotFrom slotOn
+from-small : (h : ℕ) (c : List ℕ) → h < slots → foldl slotOn h c < slots
+unfolding slotOn
 from-small h [] k = k
 from-small h (l ∷ c) k = from-small ((h * 5689 + l) % slots) c (omega arith)
 

@@ -1,14 +1,14 @@
 -- Adding a clause with its marks: what the functions of src/lib.rt say and leave.
 -- Assumes nothing.
 use Prim.Native.Nat.{ℕ, _<_}
-use mathlib.Core.Path.{_≡_, refl, sym, ap, _∙_, subst}
+use mathlib.Core.Path.{_≡_, refl, subst}
 use mathlib.Core.Bool.{true, false}
 use mathlib.Core.List.{List, [], _∷_, _++_}
 use native.Mathlib.Omega.{arith}
 use lib.ListN.{take}
 use Rattle.meaning.specs.Lists.{anyOf, same}
 use Rattle.meaning.specs.Formula.{Formula}
-use Rattle.meaning.specs.Tidy.{ascending, tidySorted, tidy, addTidied, reduce}
+use Rattle.meaning.specs.Tidy.{addTidied}
 use Rattle.meaning.specs.WellFormed.{fits, goodPrefix}
 use Rattle.table.specs.Table.{withClause, withNewClause, withRaw, Holds}
 use Rattle.table.specs.Answer.{Became}
@@ -21,9 +21,7 @@ use Rattle.table.specs.declared.Pushed.the-variants.{Done, Full}
 use Rattle.meaning.proofs.Parts.{room-of}
 use Rattle.table.proofs.HoldLaws.{count-clauses}
 use Rattle.table.proofs.AnswerLaws.{unchanged, became-fits, became-full, pushed-clauses}
-use Rattle.table.proofs.ReduceLaws.{reduce-is}
-use Rattle.table.proofs.SortLaws.{both-ascending}
-use Rattle.table.proofs.PendingLaws.{small-pending}
+use Rattle.table.proofs.PendingLaws.{raw-both, raw-one}
 use Rattle.marks.specs.Marks.{Marks, Went}
 
 -- what was to be is there already
@@ -70,15 +68,9 @@ module _ {φ : Formula} {t : List ℕ} {c : Counts} (h : Holds φ t c) {m : List
 module _ {φ : Formula} {t : List ℕ} {c : Counts} (h : Holds φ t c) {m : List ℕ} (k : Marks (φ .clauses) m)
     {raw s : List ℕ} {p : Pending} (d : Pends raw s p) where
   pub close-both : p .both ≡ true → Went φ (withRaw φ raw) (c .second) (Done c) t m
-  unfolding withRaw tidy tidySorted addTidied
-  close-both e = stayed h k (withRaw φ raw) (rw (both-ascending raw ∙ sym (d .phases) ∙ e))
+  close-both e = stayed h k (withRaw φ raw) (raw-both φ d e)
 
   pub close-one : p .both ≡ false → goodPrefix (φ .prefix) ≡ true → {ranks : List ℕ} → ranks ≡ ranksOf (φ .prefix)
       → {x : List ℕ} → x ≡ reducedBy ranks (take (p .size) s)
       → {r : Pushed} {t′ m′ : List ℕ} → Went φ (withNewClause φ x) (c .second) r t′ m′ → Went φ (withRaw φ raw) (c .second) r t′ m′
-  unfolding withRaw withNewClause tidy tidySorted
-  close-one e g {ranks} q {x} f w =
-      let reduced : x ≡ reduce (φ .prefix) (ascending raw) =
-      f ∙ ap (λ (l : List ℕ). reducedBy l (take (p .size) s)) q
-      ∙ reduce-is (φ .prefix) g (take (p .size) s) (small-pending d e) ∙ ap (reduce (φ .prefix)) (d .sorted e) in
-      rw (both-ascending raw, ← d .phases, e, ← reduced) w
+  close-one e g {ranks} q {x} f w = rw (raw-one φ d e g ranks q x f) w

@@ -3,7 +3,7 @@
 -- Assumes nothing.
 use mathlib.Core.Path.{_≡_}
 use mathlib.Core.Bool.{Bool, cond}
-use mathlib.Core.List.{List, [], _∷_}
+use mathlib.Core.List.{List, [], foldl}
 use Prim.Native.Nat.{ℕ, zero, suc, _+_, _*_, _%_, _<_}
 use lib.Dec.{eqb}
 use lib.ListN.{length, getD}
@@ -23,12 +23,8 @@ slots = 9209
 unfoldable pub slotOn : ℕ → ℕ → ℕ
 slotOn h l = (h * 5689 + l) % slots
 
-unfoldable pub slotFrom : ℕ → List ℕ → ℕ
-slotFrom h [] = h
-slotFrom h (l ∷ c) = slotFrom (slotOn h l) c
-
 unfoldable pub slotOf : List ℕ → ℕ
-slotOf c = slotFrom 0 c
+slotOf c = foldl slotOn 0 c
 
 unfoldable pub slotAt : List (List ℕ) → ℕ → ℕ
 slotAt cs i = slotOf (getD cs i [])

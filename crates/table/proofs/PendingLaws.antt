@@ -132,14 +132,22 @@ pub range-at : (clause : List ℕ) (i : ℕ) → allOf inRange clause ≡ true �
 range-at clause i a h = range-bounds (getD clause i 0) (all-getD inRange 0 clause i a h)
 
 -- The raw clause is complete ------------------------------------------------------------------------------------
-module _ {φ : Formula} {t : List ℕ} {c : Counts} (h : Holds φ t c) {raw s : List ℕ} {p : Pending} (d : Pends raw s p) where
-  pub close-both : p .both ≡ true → Became φ (withRaw φ raw) (c .second) (Done c) t
+-- with both phases it leaves the formula as it is; else it is a clause more, the literals that stay
+module _ (φ : Formula) {raw s : List ℕ} {p : Pending} (d : Pends raw s p) where
+  pub raw-both : p .both ≡ true → withRaw φ raw ≡ φ
   unfolding withRaw tidy tidySorted addTidied
-  close-both e = unchanged h (withRaw φ raw) (rw (both-ascending raw ∙ sym (d .phases) ∙ e))
+  raw-both e = rw (both-ascending raw ∙ sym (d .phases) ∙ e)
 
-  pub close-one : p .both ≡ false → goodPrefix (φ .prefix) ≡ true → (ranks : List ℕ) → ranks ≡ ranksOf (φ .prefix) → (cl : List ℕ) → cl ≡ reducedBy ranks (take (p .size) s) → (r : Pushed) (t′ : List ℕ) → Became φ (withNewClause φ cl) (c .second) r t′ → Became φ (withRaw φ raw) (c .second) r t′
+  pub raw-one : p .both ≡ false → goodPrefix (φ .prefix) ≡ true → (ranks : List ℕ) → ranks ≡ ranksOf (φ .prefix) → (cl : List ℕ) → cl ≡ reducedBy ranks (take (p .size) s) → withRaw φ raw ≡ withNewClause φ cl
   unfolding withRaw withNewClause tidy tidySorted
-  close-one e g ranks k cl q r t′ b =
+  raw-one e g ranks k cl q =
       let f : cl ≡ reduce (φ .prefix) (ascending raw) =
       q ∙ ap (λ (x : List ℕ). reducedBy x (take (p .size) s)) k ∙ reduce-is (φ .prefix) g (take (p .size) s) (small-pending d e) ∙ ap (reduce (φ .prefix)) (d .sorted e) in
-      rw (both-ascending raw, ← d .phases, e, ← f) b
+      rw (both-ascending raw, ← d .phases, e, ← f)
+
+module _ {φ : Formula} {t : List ℕ} {c : Counts} (h : Holds φ t c) {raw s : List ℕ} {p : Pending} (d : Pends raw s p) where
+  pub close-both : p .both ≡ true → Became φ (withRaw φ raw) (c .second) (Done c) t
+  close-both e = unchanged h (withRaw φ raw) (raw-both φ d e)
+
+  pub close-one : p .both ≡ false → goodPrefix (φ .prefix) ≡ true → (ranks : List ℕ) → ranks ≡ ranksOf (φ .prefix) → (cl : List ℕ) → cl ≡ reducedBy ranks (take (p .size) s) → (r : Pushed) (t′ : List ℕ) → Became φ (withNewClause φ cl) (c .second) r t′ → Became φ (withRaw φ raw) (c .second) r t′
+  close-one e g ranks k cl q r t′ b = rw (raw-one φ d e g ranks k cl q) b

@@ -1,23 +1,25 @@
 -- The invariant: the literals that are left make the rest of the slot.
 -- Assumes nothing.
 use Prim.Native.Nat.{_-_, _≤_, _<_}
-use mathlib.Core.Path.{_≡_}
+use mathlib.Core.Path.{_≡_, refl}
+use mathlib.Core.List.{foldl}
 use native.Mathlib.Omega.{arith}
 use lib.ListN.{length, drop}
 use borrow.Author.Needs.{needs}
-use Rattle.marks.specs.Marks.{slots, slotFrom, slotOf}
-use Rattle.marks.proofs.SlotLaws.{slot-start, slot-turn, slot-end}
+use Rattle.marks.specs.Marks.{slots, slotOn, slotOf}
+use Rattle.table.proofs.LoopLaws.{fold-turn, fold-end}
 use Rattle.marks.proofs.slot_of.Statement.{statement}
 use Rattle.marks.proofs.slot_of.Tie as tie
 
 abbrev Inv-loop : tie.InvT-loop
-Inv-loop clause h₀ i₀ h i = (i ≤ length clause) × (h < slots) × (slotOf clause ≡ slotFrom h (drop i clause))
+Inv-loop clause h₀ i₀ h i = (i ≤ length clause) × (h < slots) × (slotOf clause ≡ foldl slotOn h (drop i clause))
 
 abbrev μ-loop : tie.MeasureT-loop
 μ-loop clause h₀ i₀ h i = length clause - i
 
 loop-holds : tie.Need-loop-holds Inv-loop μ-loop
-loop-holds c = (omega arith, omega arith, slot-start _)
+unfolding slotOf
+loop-holds c = (omega arith, omega arith, refl)
 
 mul-h : tie.Need-mul-h Inv-loop μ-loop
 mul-h c = omega arith
@@ -41,12 +43,13 @@ loop-less : tie.Need-loop-less Inv-loop μ-loop
 loop-less c = omega arith
 
 loop-again : tie.Need-loop-again Inv-loop μ-loop
+unfolding slotOn
 loop-again c =
     let l = c .before .before .loop in
-    (omega arith, omega arith, slot-turn _ (l .i) (l .h) (l .inv .2) (c .before .loop-test .taken))
+    (omega arith, omega arith, fold-turn slotOn 0 _ (l .i) (l .h) (l .inv .2) (c .before .loop-test .taken))
 
 returns : tie.Need-returns Inv-loop μ-loop
-returns c = let l = c .before .loop in slot-end _ (l .i) (l .h) (l .inv .2) (omega arith)
+returns c = let l = c .before .loop in fold-end slotOn 0 _ (l .i) (l .h) (l .inv .2) (omega arith)
 
 pub slot-of-spec : {M : Type 1} → statement M
 slot-of-spec =
