@@ -1,4 +1,5 @@
-// The loop over the source's clauses: what becomes of each by a recipe is tidied and added to the target.
+// The loop over the source's clauses: what becomes of each by a recipe is tidied and added to the target. A filter goes with the
+// target, so that hardly any clause has to be looked for there.
 ghost use mathlib.Core.Path.{_≡_};
 ghost use mathlib.Core.Bool.{true, not};
 ghost use lib.ListN.{length, take};
@@ -7,6 +8,7 @@ ghost use Rattle.meaning.specs.Tidy.{tidied};
 ghost use Rattle.meaning.specs.WellFormed.{goodPrefix};
 ghost use Rattle.table.specs.Table.{emptyFormula, tableOf, Holds, Held};
 ghost use Rattle.table.specs.Answer.{Built};
+ghost use Rattle.filter.specs.Filter.{Covers};
 ghost use Rattle.steps.specs.Raws.{withRaws};
 ghost use Rattle.steps.specs.Recipe.{Ready, rawBy, rawsBy, remade};
 use crate::Turn;
@@ -14,11 +16,11 @@ use crate::Which;
 use crate::prefixes::copy_prefix;
 use crate::recipes::feed;
 use crate::recipes::is_taken;
+use filter::close_filtered;
 use table::Counts;
 use table::Pending;
 use table::Pushed;
 use table::clause_at;
-use table::close_clause;
 use table::rank_prefix;
 
 // What becomes of clause i.
@@ -31,11 +33,14 @@ fn add_one(
     turn: Turn,
     scratch: &mut [u16],
     ranks: &[u16],
+    filter: &mut [u64],
 ) -> Pushed
     requires { ⌜ Held (now target) d ⌝ }
     requires { ⌜ Ready (take (d .variables) (now target)) (now ranks) ⌝ }
     requires { ⌜ length (now scratch) ≡ 1023 ⌝ }
+    requires { ⌜ Covers (now target) d (now filter) ⌝ }
     ensures { λ r. ⌜ ((ψ : Formula) → Holds ψ (now (target .entry)) d → Built (withRaws ψ (rawBy which turn (ψ .prefix) i (now (clause .entry)))) (d .second) r (now (target .exit))) ⌝ }
+    ensures { λ r. ⌜ ((e : Counts) → r ≡ Pushed.Done e → Covers (now (target .exit)) e (now (filter .exit))) ⌝ }
 {
     if is_taken(which, ranks, i, clause) {
         let n = d.variables;
@@ -48,7 +53,7 @@ fn add_one(
             &target[..n],
             ranks,
         );
-        return close_clause(target, d, scratch, p, ranks);
+        return close_filtered(target, d, scratch, p, ranks, filter);
     }
     Pushed::Done(d)
 }
@@ -63,12 +68,15 @@ pub fn add_all(
     turn: Turn,
     scratch: &mut [u16],
     ranks: &[u16],
+    filter: &mut [u64],
 ) -> Pushed
     requires { ⌜ Held (now source) c ⌝ }
     requires { ⌜ Held (now target) d ⌝ }
     requires { ⌜ Ready (take (d .variables) (now target)) (now ranks) ⌝ }
     requires { ⌜ length (now scratch) ≡ 1023 ⌝ }
+    requires { ⌜ Covers (now target) d (now filter) ⌝ }
     ensures { λ r. ⌜ ((φ ψ : Formula) → Holds φ (now (source .entry)) c → Holds ψ (now (target .entry)) d → Built (withRaws ψ (rawsBy which turn (ψ .prefix) 0 (φ .clauses))) (d .second) r (now (target .exit))) ⌝ }
+    ensures { λ r. ⌜ ((e : Counts) → r ≡ Pushed.Done e → Covers (now (target .exit)) e (now (filter .exit))) ⌝ }
 {
     let mut e = d;
     let mut i = 0;
@@ -82,6 +90,7 @@ pub fn add_all(
             turn,
             scratch,
             ranks,
+            filter,
         ) {
             Pushed::Done(next) => {
                 e = next;
@@ -116,5 +125,16 @@ pub fn rebuild(
     let d = copy_prefix(source, c, v, target, !c.second);
     let n = d.variables;
     rank_prefix(&target[..n], ranks);
-    add_all(source, c, target, d, which, turn, scratch, ranks)
+    let mut filter = [0u64; 256];
+    add_all(
+        source,
+        c,
+        target,
+        d,
+        which,
+        turn,
+        scratch,
+        ranks,
+        &mut filter,
+    )
 }
