@@ -8,6 +8,7 @@ pub mod full;
 pub mod groups;
 pub mod interlock;
 pub mod lent;
+pub mod long_run;
 pub mod malformed;
 pub mod regular;
 pub mod room;

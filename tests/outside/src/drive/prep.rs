@@ -3,6 +3,7 @@
 use super::shown;
 use crate::cases::formulas::{self, MIDDLE, SMALL, WIDE};
 use crate::cases::interlock::interlock;
+use crate::cases::long_run::long_run;
 use crate::cases::{room, text_edges, texts};
 use crate::model::face::program;
 use crate::model::writing::write;
@@ -29,7 +30,9 @@ pub fn prep(seed: u64, command: &[String]) -> i32 {
     }
     let counts: Vec<String> = words.iter().map(|(word, n)| format!("{word}: {n}")).collect();
     println!("covered: {}", counts.join(", "));
-    for word in ["c TRUE", "c FALSE", "c FINISHED", "c OUT OF ROOM", "r 1", "r 3", "r 4", "r 5", "r 6", "r 7", "r 8", "r 9"] {
+    for word in
+        ["c TRUE", "c FALSE", "c FINISHED", "c OUT OF ROOM", "c STOPPED", "r 1", "r 3", "r 4", "r 5", "r 6", "r 7", "r 8", "r 9"]
+    {
         tally.check(words.contains_key(word), || format!("no text gave {word}"));
     }
     tally.finish()
@@ -66,6 +69,7 @@ fn all_texts(seed: u64) -> Vec<Vec<u8>> {
             }
         });
     }
+    list.push(write(&long_run()));
     list.push(write(&room::resolve_out_of_clauses(&mut stream(1000), 2047)));
     list.push(write(&room::resolve_out_of_literals(&mut stream(1001), 8191)));
     list

@@ -14,8 +14,8 @@ use lent::{full_tables, literals, no_formula, one_field_wrong, write_buffer, wro
 use read::{read_babble, read_clean, read_damaged, read_edge, read_long};
 use replay::{replay_bound, replay_damaged, replay_long, replay_random, replay_run};
 use run::{
-    run_allowance, run_folding, run_full, run_growing, run_hard, run_interlock, run_random, run_regular, run_room, run_short,
-    run_wide,
+    run_allowance, run_exact, run_folding, run_full, run_growing, run_hard, run_interlock, run_long, run_random, run_regular,
+    run_room, run_short, run_wide,
 };
 use step::{step_bad, step_bound, step_folding, step_near, step_permitted, step_wide, BOUNDS};
 
@@ -49,12 +49,14 @@ pub fn groups() -> Vec<Group> {
         group("run: harder formulas", 600, run_hard),
         group("run: many equal clauses in the result", 60, run_folding),
         group("run: regular formulas with universals", 200, run_regular),
+        group("run: allowances that just do", 150, run_exact),
         group("run: interlocks", 150, run_interlock),
         group("run: limits and logs that are short", 600, run_short),
         group("run: wider formulas", 40, run_wide),
         group("run: allowances at the edge", 200, run_allowance),
         group("run: only room is missing", 9, run_room),
         group("run: formulas that grow", 12, run_growing),
+        group("run: some thousand steps", 1, run_long),
         group("run: full tables", 15, run_full),
         group("replay: logs of runs", 400, replay_run),
         group("replay: permitted entries in a row", 500, replay_random),

@@ -4,6 +4,7 @@ use super::shared::{allowance, formula, step_entry};
 use super::step::BOUNDS;
 use crate::cases::full::full;
 use crate::cases::lent::{lend, random_bytes};
+use crate::cases::long_run::long_run;
 use crate::cases::{bounds, entries};
 use crate::model::entry::entry;
 use crate::model::face::{Call, Operation};
@@ -50,10 +51,10 @@ pub fn replay_random(rng: &mut Rng, _: usize) -> Call {
     replay_call(rng, &f, log)
 }
 
-/// A log of some hundred entries on a full table, now and then with an entry in it that is refused.
-pub fn replay_long(rng: &mut Rng, _: usize) -> Call {
-    let f = full(rng);
-    let mut log = run(&f, 0, 300, 4000).log;
+/// A log of some hundred entries on a full table (the first has some thousand), now and then with an entry in it that is refused.
+pub fn replay_long(rng: &mut Rng, number: usize) -> Call {
+    let f = if number == 0 { long_run() } else { full(rng) };
+    let mut log = if number == 0 { run(&f, 0, u64::MAX, 70_000).log } else { run(&f, 0, 300, 4000).log };
     if rng.once_in(3) && !log.is_empty() {
         let at = rng.below(log.len() / 4) * 4;
         let kind = rng.from(1, 7) as u32;

@@ -5,11 +5,14 @@ use crate::cases::folding::{expand_folding, resolve_folding};
 use crate::cases::full::full;
 use crate::cases::interlock::interlock;
 use crate::cases::lent::{lend, random_bytes};
+use crate::cases::long_run::long_run;
 use crate::cases::regular::{expandable, regular_expandable, regular_mixed};
 use crate::cases::{formulas, malformed, room};
+use crate::model::entry::entry;
 use crate::model::face::{Call, Operation};
 use crate::model::formula::Formula;
 use crate::model::run::run;
+use crate::model::steps::whole;
 use crate::rng::Rng;
 
 fn run_call(rng: &mut Rng, f: &Formula, allowance: u64, limit: u64, log: usize) -> Call {
@@ -132,4 +135,34 @@ pub fn run_full(rng: &mut Rng, _: usize) -> Call {
     let allowance = allowance(rng);
     let limit = *rng.pick(&[1, 5, 100, u64::MAX]);
     run_call(rng, &f, allowance, limit, 8000)
+}
+
+/// Some thousand steps, with a log that is long enough for all.
+pub fn run_long(rng: &mut Rng, _: usize) -> Call {
+    run_call(rng, &long_run(), 0, u64::MAX, 70_000)
+}
+
+/// The allowance is exactly what the cheapest expansion needs where nothing else is left, or one less, or one more.
+pub fn run_exact(rng: &mut Rng, _: usize) -> Call {
+    for _ in 0..50 {
+        let f = match rng.below(3) {
+            0 => regular_mixed(rng),
+            1 => formulas::hard(rng, 9),
+            _ => regular_expandable(rng),
+        };
+        if let Some(rise) = least_rise(&run(&f, 0, 1000, 4000).formula) {
+            let allowance = (rise + rng.below(3) as u64).saturating_sub(1);
+            return run_call(rng, &f, allowance.min(1000), 1000, 4000);
+        }
+    }
+    run_random(rng, 0)
+}
+
+/// By how much the weight rises with the cheapest expansion of a formula that no verdict stands on.
+fn least_rise(f: &Formula) -> Option<u64> {
+    if f.clauses.is_empty() || f.clauses.iter().any(|c| c.is_empty()) {
+        return None;
+    }
+    let weights = f.prefix.iter().filter_map(|b| whole(f, entry(7, b.var, 0))).map(|result| result.weight() as u64);
+    weights.min()?.checked_sub(f.weight() as u64)
 }
