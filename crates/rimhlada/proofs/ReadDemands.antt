@@ -19,7 +19,7 @@ use Rattle.table.specs.Check.{rightLengths}
 use Rattle.reader.specs.Reading.{readNumber, answerFor, refusal, readingFor, lengthsRight, readingOf, tableFor, firstAfter, secondAfter, Reads}
 use Rattle.reader.specs.declared.Reading.{Reading}
 use Rattle.rimhlada.specs.Standing.{formulaIn, firstFor, secondFor}
-use Rattle.rimhlada.specs.Demands.{zeros, noCounts, Untouched, TextRead, ReadDemands}
+use Rattle.rimhlada.specs.Demands.{zeros, noCounts, LeftAs, TextRead, ReadDemands}
 use Rattle.meaning.proofs.Basics.{and-r}
 use Rattle.table.proofs.TableLaws.{table-empty}
 use Rattle.reader.proofs.NumberLaws.{Known, fault-known}
@@ -40,7 +40,7 @@ module _ (text a b : List ℕ) (r : Reading) (a′ b′ : List ℕ) (w : Reads t
     unfolding readNumber
     wrong-number = ap (λ (x : Reading). readNumber (x .answer)) wrong-is
 
-    wrong-left : Untouched a b noCounts a′ b′ (r .counts)
+    wrong-left : LeftAs a b noCounts a′ b′ (r .counts)
     unfolding firstAfter secondAfter
     wrong-left = record { counts = ap (λ (x : Reading). x .counts) wrong-is; first = w .first ∙ rw l; second = w .second ∙ rw l }
 
@@ -109,7 +109,7 @@ module _ (text a b : List ℕ) (r : Reading) (a′ b′ : List ℕ) (w : Reads t
     unfolding refusal
     number-is = ap (λ (x : Reading). readNumber (x .answer)) fault-is ∙ known .0
 
-    fault-left : Untouched zeros zeros noCounts a′ b′ (r .counts)
+    fault-left : LeftAs zeros zeros noCounts a′ b′ (r .counts)
     unfolding firstAfter secondAfter tableFor refusal countsOf emptyFormula literals
     fault-left =
         record {

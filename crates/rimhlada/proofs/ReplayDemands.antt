@@ -20,7 +20,7 @@ use Rattle.table.specs.declared.Asked.{Asked}
 use Rattle.rimhlada.specs.Standing.{formulaIn, firstFor, secondFor, firstLeft, secondLeft}
 use Rattle.rimhlada.specs.Stepping.{stepNumber}
 use Rattle.rimhlada.specs.Replaying.{stopAnswer, replayedFor, replayIn, sideReplayed, Replays}
-use Rattle.rimhlada.specs.Demands.{Left, Untouched, FirstRefused, ReplaySays, ReplayDemands}
+use Rattle.rimhlada.specs.Demands.{Left, LeftAs, FirstRefused, ReplaySays, ReplayDemands}
 use Rattle.rimhlada.specs.declared.replays.Replayed.{Replayed}
 use Rattle.rules.proofs.Kept.{Kept, kept-none, kept-true}
 use Rattle.rules.proofs.Replays.{replay-beginning, replay-kept}
@@ -146,7 +146,7 @@ module _ (a b : List ℕ) (c : Counts) (log : List ℕ) (r : Replayed) (a′ b�
 
   -- It is refused ----------------------------------------------------------------------------------------------
   refused : (s : Asked) → asked a b c ≡ s → (s ≡ said.Given → ⊥)
-      → (stepNumber (r .answer) ≡ askedNumber s) × Untouched a b c a′ b′ (r .counts) × (r .applied ≡ 0)
+      → (stepNumber (r .answer) ≡ askedNumber s) × LeftAs a b c a′ b′ (r .counts) × (r .applied ≡ 0)
   unfolding replayedFor firstLeft secondLeft stepNumber askedNumber
   refused said.Given g n = absurd (n refl)
   refused said.WrongLength g n =

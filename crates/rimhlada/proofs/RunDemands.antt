@@ -1,12 +1,12 @@
 -- `run`, from its contract alone: it meets its demands, and two outcomes that conform coincide.
 -- Assumes nothing.
 use mathlib.Core.Path.{_≡_, refl, sym, ap, _∙_}
-use mathlib.Core.Bool.{Bool, true, false}
+use mathlib.Core.Bool.{Bool, true, false, cond}
 use mathlib.Core.List.{List, _++_}
 use Prim.Native.Nat.{ℕ, _*_, _/_, _≤_, _<_, min}
 use native.Mathlib.Omega.{arith}
 use borrow.Author.Tests.{leb-true, leb-false}
-use lib.Dec.{leb}
+use lib.Dec.{leb, eqb}
 use lib.ListN.{length, take, drop}
 use lib.Seq.{take-at, drop-at}
 use Rattle.table.specs.declared.Asked.the-variants as said
@@ -51,65 +51,36 @@ number-large (ended finished) = omega arith
 number-large (ended outOfRoom) = omega arith
 number-large stopped = omega arith
 
+-- the outcome with a number; so outcomes with the same number are the same
+unfoldable outcomeAt : ℕ → rules.Outcome
+outcomeAt k = cond (eqb k 20) (ended isTRUE) (cond (eqb k 21) (ended isFALSE) (cond (eqb k 22) (ended finished) (cond (eqb k 23) (ended outOfRoom) stopped)))
+
+at-number : (o : rules.Outcome) → outcomeAt (outcomeNumber o) ≡ o
+unfolding outcomeAt outcomeNumber endNumber
+at-number (ended isTRUE) = refl
+at-number (ended isFALSE) = refl
+at-number (ended finished) = refl
+at-number (ended outOfRoom) = refl
+at-number stopped = refl
+
+same-number : (o p : rules.Outcome) → outcomeNumber o ≡ outcomeNumber p → o ≡ p
+same-number o p e = sym (at-number o) ∙ ap outcomeAt e ∙ at-number p
+
 -- What is said of the definition's run, by the outcome's number ------------------------------------------------
-module _ (E n : ℕ) (φ : Formula) (x : rules.Ran) (h : RunRight E n φ x) where
-  by-number : (o : rules.Outcome) → x .outcome ≡ o → RunSays E n φ (x .final) (length (x .log)) (outcomeNumber o)
-  unfolding outcomeNumber endNumber stepBound
-  by-number (ended isTRUE) e =
-      record {
-        few = h .few;
-        within = h .limit;
-        is-true = λ _. h .says-true e;
-        is-false = λ k. absurd (omega arith);
-        finished = λ k. absurd (omega arith);
-        out-of-room = λ k. absurd (omega arith);
-        stopped = λ k. absurd (omega arith);
-        ends = λ _ k. absurd (omega arith);
-      }
-  by-number (ended isFALSE) e =
-      record {
-        few = h .few;
-        within = h .limit;
-        is-true = λ k. absurd (omega arith);
-        is-false = λ _. h .says-false e;
-        finished = λ k. absurd (omega arith);
-        out-of-room = λ k. absurd (omega arith);
-        stopped = λ k. absurd (omega arith);
-        ends = λ _ k. absurd (omega arith);
-      }
-  by-number (ended finished) e =
-      record {
-        few = h .few;
-        within = h .limit;
-        is-true = λ k. absurd (omega arith);
-        is-false = λ k. absurd (omega arith);
-        finished = λ _ y. (h .says-finished e y .0, false-of (blocked E (x .final) y) (h .says-finished e y .1));
-        out-of-room = λ k. absurd (omega arith);
-        stopped = λ k. absurd (omega arith);
-        ends = λ _ k. absurd (omega arith);
-      }
-  by-number (ended outOfRoom) e =
-      record {
-        few = h .few;
-        within = h .limit;
-        is-true = λ k. absurd (omega arith);
-        is-false = λ k. absurd (omega arith);
-        finished = λ k. absurd (omega arith);
-        out-of-room = λ _. h .says-no-room e;
-        stopped = λ k. absurd (omega arith);
-        ends = λ _ k. absurd (omega arith);
-      }
-  by-number stopped e =
-      record {
-        few = h .few;
-        within = h .limit;
-        is-true = λ k. absurd (omega arith);
-        is-false = λ k. absurd (omega arith);
-        finished = λ k. absurd (omega arith);
-        out-of-room = λ k. absurd (omega arith);
-        stopped = λ _. h .says-stopped e;
-        ends = λ room _. h .ends room e;
-      }
+by-number : (E n : ℕ) (φ : Formula) (x : rules.Ran) → RunRight E n φ x → RunSays E n φ (x .final) (length (x .log)) (outcomeNumber (x .outcome))
+unfolding outcomeNumber endNumber stepBound
+by-number E n φ x h =
+    record {
+      few = h .few;
+      within = h .limit;
+      is-true = λ k. h .says-true (same-number (x .outcome) (ended isTRUE) k);
+      is-false = λ k. h .says-false (same-number (x .outcome) (ended isFALSE) k);
+      finished = λ k e.
+          let y = h .says-finished (same-number (x .outcome) (ended finished) k) e in (y .0, false-of (blocked E (x .final) e) (y .1));
+      out-of-room = λ k. h .says-no-room (same-number (x .outcome) (ended outOfRoom) k);
+      stopped = λ k. h .says-stopped (same-number (x .outcome) stopped k);
+      ends = λ room k. h .ends room (same-number (x .outcome) stopped k);
+    }
 
 module _ (a b : List ℕ) (c : Counts) (E limit : ℕ) (log : List ℕ) (r : Ran) (a′ b′ log′ : List ℕ) (w : Runs a b c E limit log r a′ b′ log′) where
   pub runs-once : (q : Ran) (x y l : List ℕ) → Runs a b c E limit log q x y l → (r ≡ q) × (a′ ≡ x) × (b′ ≡ y) × (log′ ≡ l)
@@ -166,7 +137,7 @@ module _ (a b : List ℕ) (c : Counts) (E limit : ℕ) (log : List ℕ) (r : Ran
             taken = rw (counts-are, first-is, second-is) (stands-given (x .final) side (right .kept .room) (right .kept .well));
             same-truth = ap isTrue final-is ∙ kept-true (formulaIn a b c) (x .final) (right .kept);
           };
-          says = rw (final-is, steps-are, answer-number) (by-number E (min limit (length log / 4)) (formulaIn a b c) x right (x .outcome) refl);
+          says = rw (final-is, steps-are, answer-number) (by-number E (min limit (length log / 4)) (formulaIn a b c) x right);
           counted = steps-are;
           logged = logged-is;
           stays = rw (steps-are, log-is) (drop-at (logBytes (x .log)) (drop (4 * length (x .log)) log) (4 * length (x .log)) (log-length (x .log)));

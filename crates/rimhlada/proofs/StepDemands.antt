@@ -17,7 +17,7 @@ use Rattle.table.specs.declared.Asked.{Asked}
 use Rattle.apply.specs.Applied.{formulaAfter, sideAfter}
 use Rattle.rimhlada.specs.Standing.{formulaIn, firstFor, secondFor, firstLeft, secondLeft}
 use Rattle.rimhlada.specs.Stepping.{stepNumber, refusalAnswer, stepAnswer, answerFor, stepCounts, countsFor, stepIn, formulaLeft, sideLeft, answerOf, countsGiven, firstAfter, secondAfter, Steps}
-use Rattle.rimhlada.specs.Demands.{Left, Untouched, StepDemands}
+use Rattle.rimhlada.specs.Demands.{Left, LeftAs, StepDemands}
 use Rattle.rimhlada.specs.declared.stepping.Stepped.{Stepped}
 use Rattle.rimhlada.proofs.Promises.{StepRight, stepping}
 use Rattle.rimhlada.proofs.LentLaws.{lends, stands-named, stands-formula, stands-given}
@@ -100,7 +100,7 @@ module _ (a b : List ℕ) (c : Counts) (e : ℕ) (r : Stepped) (a′ b′ : List
         }
 
   -- Nothing written --------------------------------------------------------------------------------------------
-  nothing-written : (n : ℕ) → askedNumber (asked a b c) ≡ n → 1 ≤ n → n ≤ 2 → stepNumber (r .answer) ≡ n → Untouched a b c a′ b′ (r .counts) → StepDemands a b c e r a′ b′
+  nothing-written : (n : ℕ) → askedNumber (asked a b c) ≡ n → 1 ≤ n → n ≤ 2 → stepNumber (r .answer) ≡ n → LeftAs a b c a′ b′ (r .counts) → StepDemands a b c e r a′ b′
   nothing-written n s l m k u =
       record { steps = λ h. absurd (omega arith); refuses = λ h. absurd (omega arith); nothing = λ _ _. (k ∙ sym s, u) }
 

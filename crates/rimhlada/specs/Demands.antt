@@ -44,11 +44,11 @@ pub record Left (φ : Formula) (a′ b′ : List ℕ) (d : Counts) : Type 0 wher
   pub taken : asked a′ b′ d ≡ said.Given
   pub same-truth : isTrue (formulaIn a′ b′ d) ≡ isTrue φ
 
--- "nothing written", and the record as it was lent
-pub record Untouched (a b : List ℕ) (c : Counts) (a′ b′ : List ℕ) (d : Counts) : Type 0 where
-  pub counts : d ≡ c
-  pub first : a′ ≡ a
-  pub second : b′ ≡ b
+-- the tables and the record are left as x, y and z: those that were lent, where there is "nothing written", or zeros
+pub record LeftAs (x y : List ℕ) (z : Counts) (a′ b′ : List ℕ) (d : Counts) : Type 0 where
+  pub counts : d ≡ z
+  pub first : a′ ≡ x
+  pub second : b′ ≡ y
 
 -- read --------------------------------------------------------------------------------------------------------
 -- the text writes a formula; tidied, it stands in the first table, and the second is zero
@@ -65,9 +65,9 @@ pub record ReadDemands (text a b : List ℕ) (r : Reading) (a′ b′ : List ℕ
   pub reads : readNumber (r .answer) ≡ 0 → TextRead text a′ b′ (r .counts)
   pub accepts : lengthsRight text a b ≡ true → (φ : Formula) → read text ≡ good φ → readNumber (r .answer) ≡ 0
   -- 3 to 9: the number and the offset are those of the text's first fault; "both tables zero, counts zero"
-  pub faults : 3 ≤ readNumber (r .answer) → (read text ≡ fault (readNumber (r .answer)) (r .offset)) × Untouched zeros zeros noCounts a′ b′ (r .counts)
+  pub faults : 3 ≤ readNumber (r .answer) → (read text ≡ fault (readNumber (r .answer)) (r .offset)) × LeftAs zeros zeros noCounts a′ b′ (r .counts)
   -- 1: a length is wrong, and nothing is written
-  pub refuses : readNumber (r .answer) ≡ 1 → (lengthsRight text a b ≡ false) × Untouched a b noCounts a′ b′ (r .counts)
+  pub refuses : readNumber (r .answer) ≡ 1 → (lengthsRight text a b ≡ false) × LeftAs a b noCounts a′ b′ (r .counts)
 
 -- write -------------------------------------------------------------------------------------------------------
 pub record WriteDemands (a b : List ℕ) (c : Counts) (out : List ℕ) (r : Writing) (after : List ℕ) : Type 0 where
@@ -103,7 +103,7 @@ pub record StepDemands (a b : List ℕ) (c : Counts) (e : ℕ) (r : Stepped) (a�
       → (y : Refusal) × (stepOf (formulaIn a b c) e ≡ refused y) × (stepNumber (r .answer) ≡ refusalNumber y) × (r .counts ≡ c) × (named a′ b′ c ≡ named a b c)
   -- 1, 2: nothing written
   pub nothing : 1 ≤ stepNumber (r .answer) → stepNumber (r .answer) ≤ 2
-      → (stepNumber (r .answer) ≡ askedNumber (asked a b c)) × Untouched a b c a′ b′ (r .counts)
+      → (stepNumber (r .answer) ≡ askedNumber (asked a b c)) × LeftAs a b c a′ b′ (r .counts)
 
 -- run ---------------------------------------------------------------------------------------------------------
 -- W + U x (E + 1), from the formula that was lent
@@ -146,7 +146,7 @@ pub record RunDemands (a b : List ℕ) (c : Counts) (E limit : ℕ) (log : List 
   pub accepts : asked a b c ≡ said.Given → E ≤ 1000 → 20 ≤ runNumber (r .answer)
   -- 1, 2, 13: nothing written, 0 steps
   pub refuses : runNumber (r .answer) < 20
-      → (runNumber (r .answer) ≡ refusedNumber (asked a b c)) × Untouched a b c a′ b′ (r .counts) × (log′ ≡ log) × (r .steps ≡ 0)
+      → (runNumber (r .answer) ≡ refusedNumber (asked a b c)) × LeftAs a b c a′ b′ (r .counts) × (log′ ≡ log) × (r .steps ≡ 0)
 
 -- replay ------------------------------------------------------------------------------------------------------
 -- after n entries of es comes one that the formula ψ refuses, with the number k
@@ -174,7 +174,7 @@ pub record ReplayDemands (a b : List ℕ) (c : Counts) (log : List ℕ) (r : Rep
       → (stepNumber (r .answer) ≡ 12) × (r .applied ≡ 0) × (formulaIn a′ b′ (r .counts) ≡ formulaIn a b c)
   -- 1, 2: nothing written
   pub refuses : (asked a b c ≡ said.Given → ⊥)
-      → (stepNumber (r .answer) ≡ askedNumber (asked a b c)) × Untouched a b c a′ b′ (r .counts) × (r .applied ≡ 0)
+      → (stepNumber (r .answer) ≡ askedNumber (asked a b c)) × LeftAs a b c a′ b′ (r .counts) × (r .applied ≡ 0)
 
 -- Two calls one after the other -------------------------------------------------------------------------------
 -- read, then run on what was left: a verdict is the truth of the formula as it is written in the text
