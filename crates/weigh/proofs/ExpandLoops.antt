@@ -21,7 +21,7 @@ use Rattle.meaning.proofs.Weight.{keep-length}
 use Rattle.table.proofs.HoldLaws.{room}
 use Rattle.table.proofs.LoopLaws.{any-found, any-turn, any-end}
 use Rattle.permits.proofs.AndLaws.{and-second, and-none}
-use Rattle.weigh.specs.Expanding.{existentials, innerLit, reaches, shareOf, clausesOf, literalsOf, expandedClauses, expandedLiterals, expandedSize, weightOf, sizeFits, weighedSize}
+use Rattle.weigh.specs.Expanding.{existentials, innerLit, reaches, shareOf, clausesOf, literalsOf, expandedClauses, expandedLiterals, expandedSize, weightOf, countsFit, weighedCounts}
 use Rattle.weigh.specs.declared.Weighed.the-variants.{Over, Fitting, Wide}
 use Rattle.weigh.specs.declared.expanding.Share.{Share}
 use Rattle.weigh.specs.declared.expanding.Share.the-variants.{Stays, Loses, Doubles}
@@ -154,30 +154,30 @@ getD-few (c ∷ cs) (suc i) = let h = getD-few cs i in omega arith
 pub clause-few : {φ : Formula} {t : List ℕ} {e : Counts} → Holds φ t e → (i : ℕ) (c : List ℕ) → c ≡ getD (φ .clauses) i [] → length c ≤ 8191
 clause-few {φ} {t} {e} h i c is = let r = room h in rw is (omega (arith, getD-few (φ .clauses) i, r .literals))
 
--- The size against the limits and the bound --------------------------------------------------------------------------------
-module _ (v k : ℕ) (s : Size) where
-  pub fits-room : v + k ≤ 1023 → s .clauses ≤ 2047 → leb (s .literals) 8191 ≡ sizeFits v k s
-  unfolding sizeFits
-  fits-room h i = rw (le-leb (v + k) 1023 h, le-leb (s .clauses) 2047 i)
+-- The counts against the limits and the bound --------------------------------------------------------------------------------
+module _ (d : Counts) where
+  pub fits-room : d .variables < 1023 → d .clauses ≤ 2047 → leb (d .literals) 8191 ≡ countsFit d
+  unfolding countsFit
+  fits-room h i = rw (lt-ltb (d .variables) 1023 h, le-leb (d .clauses) 2047 i)
 
-  pub fits-clauses : v + k ≤ 1023 → 2047 < s .clauses → false ≡ sizeFits v k s
-  unfolding sizeFits
-  fits-clauses h i = rw (le-leb (v + k) 1023 h, lt-leb (s .clauses) 2047 i)
+  pub fits-clauses : d .variables < 1023 → 2047 < d .clauses → false ≡ countsFit d
+  unfolding countsFit
+  fits-clauses h i = rw (lt-ltb (d .variables) 1023 h, lt-leb (d .clauses) 2047 i)
 
-  pub fits-variables : 1023 < v + k → false ≡ sizeFits v k s
-  unfolding sizeFits
-  fits-variables h = rw (lt-leb (v + k) 1023 h)
+  pub fits-variables : 1023 ≤ d .variables → false ≡ countsFit d
+  unfolding countsFit
+  fits-variables h = rw (le-ltb (d .variables) 1023 h)
 
-  module _ (below w : ℕ) (is : w ≡ weightOf v k s) where
-    pub weighs-over : below ≤ w → Over ≡ weighedSize below v k s
-    unfolding weighedSize
+  module _ (below w : ℕ) (is : w ≡ weightOf d) where
+    pub weighs-over : below ≤ w → Over ≡ weighedCounts below d
+    unfolding weighedCounts
     weighs-over h = rw (← is, le-ltb w below h)
 
-    module _ (h : w < below) (f : Bool) (said : f ≡ sizeFits v k s) where
-      pub weighs-fitting : f ≡ true → Fitting w ≡ weighedSize below v k s
-      unfolding weighedSize
+    module _ (h : w < below) (f : Bool) (said : f ≡ countsFit d) where
+      pub weighs-fitting : f ≡ true → Fitting w ≡ weighedCounts below d
+      unfolding weighedCounts
       weighs-fitting t = rw (← is, lt-ltb w below h, ← said, t)
 
-      pub weighs-wide : f ≡ false → Wide ≡ weighedSize below v k s
-      unfolding weighedSize
+      pub weighs-wide : f ≡ false → Wide ≡ weighedCounts below d
+      unfolding weighedCounts
       weighs-wide t = rw (← is, lt-ltb w below h, ← said, t)

@@ -6,7 +6,8 @@ use mathlib.Core.Bool.{Bool, true, false, _&&_, _||_, not}
 use mathlib.Core.List.{List, [], _∷_, _++_, map}
 use native.Mathlib.Omega.{arith}
 use lib.ListN.{length, getD, take, drop}
-use borrow.Author.Tests.{lt-ltb, ne-eqb}
+use lib.Dec.{ltb, leb}
+use borrow.Author.Tests.{lt-ltb, ltb-true, le-leb, leb-true, ne-eqb}
 use Rattle.meaning.specs.Lists.{allOf, anyOf, partOf}
 use Rattle.meaning.specs.Formula.{Formula, odd, plain, negated, isVar, mentions}
 use Rattle.meaning.specs.WellFormed.{ascends, bound, reduced, tidyClause, wellFormed, literals, fits, weight}
@@ -15,10 +16,10 @@ use Rattle.rules.specs.Simplify.{assign, subsumePermitted, clauseAt, isClause}
 use Rattle.rules.specs.Eliminate.{expandPermitted, inner, fresh, renameLit, touching, others, expandWith, expandRaw}
 use Rattle.rules.specs.Entry.{expand}
 use Rattle.rules.specs.Step.{permitted, rawOf, resultOf}
-use Rattle.table.specs.Table.{Holds}
+use Rattle.table.specs.Table.{Holds, countsOf}
 use Rattle.table.specs.declared.Counts.{Counts}
 use Rattle.permits.specs.Places.{placeOf}
-use Rattle.meaning.proofs.Basics.{clash, false-of, and-i}
+use Rattle.meaning.proofs.Basics.{clash, false-of, and-i, iff}
 use Rattle.meaning.proofs.Lists.{any-keep-le, all-all, all-le}
 use Rattle.meaning.proofs.Parts.{good-of, tidy-of, ascends-of, room-of}
 use Rattle.meaning.proofs.Prefix.{forall-mentioned}
@@ -28,7 +29,7 @@ use Rattle.rules.proofs.Expand.{copies-ok, with-u, fs-out}
 use Rattle.rules.proofs.Raws.{RawOk, expand-ok}
 use Rattle.table.proofs.HoldLaws.{count-variables, prefix-is}
 use Rattle.weigh.specs.Weights.{weighed, weighedStep, NoneSubsumed}
-use Rattle.weigh.specs.Expanding.{existentials, expandedClauses, expandedLiterals, expandedSize, weightOf, sizeFits, weighedSize}
+use Rattle.weigh.specs.Expanding.{existentials, expandedClauses, expandedLiterals, expandedSize, weightOf, countsFit, weighedCounts}
 use Rattle.weigh.specs.declared.Weighed.{Weighed}
 use Rattle.weigh.specs.declared.Weighed.the-variants.{Over}
 use Rattle.weigh.specs.declared.expanding.Size.{Size}
@@ -61,6 +62,16 @@ unnested (c ∷ cs) h =
 none-part : (φ : Formula) → NoneSubsumed φ → Unnested (φ .clauses)
 unfolding subsumePermitted clauseAt isClause
 none-part φ none i j k l d = rw (lt-ltb i (length (φ .clauses)) k, lt-ltb j (length (φ .clauses)) l, ne-eqb i j d) at (none i j)
+
+-- a prefix with a variable is not empty
+mentions-some : (p : List ℕ) (v : ℕ) → mentions p v ≡ true → 0 < length p
+unfolding mentions anyOf
+mentions-some [] v m = clash m refl
+mentions-some (q ∷ p) v m = omega arith
+
+-- the counts of the result, by what its clauses come to: of v variables one is dropped, and k copies are added
+abbrev pub expandedCounts : ℕ → ℕ → Size → Bool → Counts
+expandedCounts v k s second = record { variables = v - 1 + k; clauses = s .clauses; literals = s .literals; second = second }
 
 -- The step ---------------------------------------------------------------------------------------------------------------
 module _ (φ : Formula) (w : wellFormed φ ≡ true) (a : ℕ) (ok : expandPermitted φ a ≡ true) where
@@ -133,52 +144,69 @@ module _ (φ : Formula) (w : wellFormed φ ≡ true) (a : ℕ) (ok : expandPermi
         whole-literals q (raw-ok .0) raws raws-whole raws-apart
         ∙ (raw-literals a es (renameLit es fs) (φ .clauses) ascend-all ∙ sym (literals-by p a (good-of φ w) inside (φ .clauses)))
 
-    weight-is : weight ψ ≡ weightOf (length p) (length es) size
-    unfolding weight weightOf expandedSize
-    weight-is = rw (new-length p a es (length es) expands, clauses-are, literals-are)
+    pub counts-are : (second : Bool) → expandedCounts (length p) (length es) size second ≡ countsOf (resultOf φ expand a 0) second
+    unfolding countsOf expandedSize
+    counts-are second =
+        let v = sym (new-length p a es (length es) expands) in
+        let x = sym clauses-are in
+        let y = sym literals-are in
+        rw result-is (λ i. record { variables = v i; clauses = x i; literals = y i; second = second })
 
-    fits-is : fits φ ≡ true → fits ψ ≡ sizeFits (length p) (length es) size
-    unfolding fits sizeFits expandedSize
-    fits-is f = rw (new-fits p a es (length es) expands (raw-ok .0) (room-of φ (unfold fits in f) .numbers), clauses-are, literals-are)
+  -- one fewer than the old prefix and the copies
+  fewer : ltb (length q) 1023 ≡ leb (length p + length es) 1023
+  fewer =
+      let s = mentions-some p a inside in
+      iff (ltb (length q) 1023) (leb (length p + length es) 1023)
+      (λ h. let k = ltb-true (length q) 1023 h in le-leb (length p + length es) 1023 (omega (arith, new-length p a es (length es) expands)))
+      (λ h. let k = leb-true (length p + length es) 1023 h in lt-ltb (length q) 1023 (omega (arith, new-length p a es (length es) expands)))
 
-    pub weighed-is : (below : ℕ) → fits φ ≡ true → weighed below (resultOf φ expand a 0) ≡ weighedSize below (length p) (length es) size
-    unfolding weighed weighedSize
-    weighed-is below f = rw (result-is, weight-is, fits-is f)
+  fits-is : fits φ ≡ true → (second : Bool) → fits ψ ≡ countsFit (countsOf ψ second)
+  unfolding fits countsFit countsOf
+  fits-is f second = rw (new-fits p a es (length es) expands (raw-ok .0) (room-of φ (unfold fits in f) .numbers), fewer)
+
+  weight-is : (second : Bool) → weightOf (countsOf ψ second) ≡ weight ψ
+  unfolding weightOf weight countsOf
+  weight-is second = refl
+
+  pub weighed-is : (below : ℕ) → fits φ ≡ true → (d : Counts) → d ≡ countsOf (resultOf φ expand a 0) (d .second)
+      → weighedCounts below d ≡ weighed below (resultOf φ expand a 0)
+  unfolding weighed weighedCounts
+  weighed-is below f d is =
+      let e : d ≡ countsOf ψ (d .second) = is ∙ ap (λ (χ : Formula). countsOf χ (d .second)) result-is in
+      let w : weightOf d ≡ weight ψ = ap weightOf e ∙ weight-is (d .second) in
+      let g : countsFit d ≡ fits ψ = ap countsFit e ∙ sym (fits-is f (d .second)) in
+      rw (result-is, w, g)
 
 -- From a table that holds the formula -------------------------------------------------------------------------------------
-mentions-some : (p : List ℕ) (v : ℕ) → mentions p v ≡ true → 0 < length p
-unfolding mentions anyOf
-mentions-some [] v m = clash m refl
-mentions-some (q ∷ p) v m = omega arith
-
-module _ {φ : Formula} {t : List ℕ} {c : Counts} (h : Holds φ t c) (w : wellFormed φ ≡ true) (a below : ℕ) where
+module _ {φ : Formula} {t : List ℕ} {c : Counts} (h : Holds φ t c) (w : wellFormed φ ≡ true) (a : ℕ) where
   -- n is the place of a, k counts the existentials behind it, s is the size of the clauses
-  pub weighed-held : (ok : expandPermitted φ a ≡ true) (none : NoneSubsumed φ) (n k : ℕ) (s : Size) → n ≡ placeOf (φ .prefix) a
+  pub counts-held : (ok : expandPermitted φ a ≡ true) (none : NoneSubsumed φ) (n k : ℕ) (s : Size) → n ≡ placeOf (φ .prefix) a
       → k ≡ existentials (drop n (take (c .variables) t))
       → s ≡ expandedSize (φ .prefix) n a (φ .clauses)
-      → (r : Weighed) → r ≡ weighedSize below (c .variables) k s → r ≡ weighed below (resultOf φ expand a 0)
-  weighed-held ok none n k s at count sized r said =
+      → (second : Bool) → expandedCounts (c .variables) k s second ≡ countsOf (resultOf φ expand a 0) second
+  counts-held ok none n k s at count sized second =
       let m = inside φ w a ok in
       let e : k ≡ length (inner a (φ .prefix)) =
       count ∙ (ap (λ (q : List ℕ). existentials (drop n q)) (prefix-is h)
       ∙ (ap (λ (i : ℕ). existentials (drop i (φ .prefix))) at ∙ inner-count (φ .prefix) a (good-of φ w) m)) in
       let z : s ≡ expandedSize (φ .prefix) (placeOf (φ .prefix) a) a (φ .clauses) =
       sized ∙ ap (λ (i : ℕ). expandedSize (φ .prefix) i a (φ .clauses)) at in
-      said ∙ (rw (e, z, count-variables h) (sym (weighed-is φ w a ok none below (h .fitting))))
+      rw (e, z, count-variables h) (counts-are φ w a ok none second)
 
-  module _ (b : Bool) (said : b ≡ expandPermitted φ a) where
+  module _ (below : ℕ) (b : Bool) (said : b ≡ expandPermitted φ a) where
     pub step-not : b ≡ false → Over ≡ weighedStep below φ expand a
     unfolding weighedStep permitted
     step-not e = rw (← said, e)
 
-    pub step-is : b ≡ true → (r : Weighed) → r ≡ weighed below (resultOf φ expand a 0) → r ≡ weighedStep below φ expand a
+    pub step-is : b ≡ true → (d : Counts) → d ≡ countsOf (resultOf φ expand a 0) (d .second) → (r : Weighed) → r ≡ weighedCounts below d
+        → r ≡ weighedStep below φ expand a
     unfolding weighedStep permitted
-    step-is e r q = rw (← said, e) q
+    step-is e d is r q = rw (← said, e) (q ∙ weighed-is φ w a (sym said ∙ e) below (h .fitting) d is)
 
   -- without a variable there is none to expand
-  pub step-none : c .variables ≡ 0 → Over ≡ weighedStep below φ expand a
-  step-none e =
-      step-not false
+  pub step-none : (below : ℕ) → c .variables ≡ 0 → Over ≡ weighedStep below φ expand a
+  step-none below e =
+      step-not below false
       (sym (false-of (expandPermitted φ a) (λ ok.
       let m = mentions-some (φ .prefix) a (inside φ w a ok) in absurd (omega (arith, count-variables h)))))
       refl

@@ -5,7 +5,8 @@ use mathlib.Core.Path.{_≡_, sym, ap, _∙_}
 use mathlib.Core.Bool.{Bool, true, false, _&&_, not}
 use mathlib.Core.List.{List, _∷_}
 use lib.ListN.{length, length-append}
-use lib.Dec.{leb}
+use lib.Dec.{ltb, leb}
+use borrow.Author.Tests.{ltb-true, ltb-false}
 use native.Mathlib.Omega.{arith}
 use Rattle.meaning.specs.Lists.{allOf}
 use Rattle.meaning.specs.Formula.{Formula, var, isVar, mentions, dropVar, plain, negated}
@@ -16,12 +17,16 @@ use Rattle.rules.specs.Entry.{resolve}
 use Rattle.rules.specs.Step.{permitted, resultOf}
 use Rattle.permits.specs.Places.{sideWithin}
 use Rattle.permits.proofs.AndLaws.{and-second, and-none}
+use Rattle.permits.proofs.PlaceLaws.{entries-of}
+use Rattle.permits.proofs.SideLaws.{resolve-large}
+use Rattle.index.specs.Study.{Studied}
 use Rattle.table.specs.Table.{countsOf}
 use Rattle.table.specs.declared.Counts.{Counts}
 use Rattle.weigh.specs.Weights.{weighed, weighedStep}
 use Rattle.weigh.specs.declared.Weighed.{Weighed}
 use Rattle.weigh.specs.declared.Weighed.the-variants.{Over}
 use Rattle.weigh.specs.Resolving.{restOf, stayOf, pairs, resolvedTo, Filed, Bounded}
+use Rattle.meaning.proofs.Basics.{by-cases, clash}
 use Rattle.meaning.proofs.Lists.{all-keep-le}
 use Rattle.meaning.proofs.Parts.{good-of, room-of}
 use Rattle.meaning.proofs.Prefix.{exists-mentioned}
@@ -29,7 +34,6 @@ use Rattle.rules.proofs.Permitted.{resolve-says}
 use Rattle.rules.proofs.Place.{place}
 use Rattle.table.proofs.HoldLaws.{holds-bounds, count-variables, count-clauses, count-literals}
 use Rattle.weigh.proofs.ResolvSides.{stay-clauses, stay-literals}
-use Rattle.weigh.proofs.ResolvResult.{result-is}
 
 -- The condition, by its two sides ------------------------------------------------------------------------------------------
 module _ (φ : Formula) (a n : ℕ) (p : Bool) where
@@ -92,12 +96,14 @@ pub rest-small : (φ : Formula) → fits φ ≡ true → (a k : ℕ) → allOf (
 unfolding resolvedTo dropVar
 rest-small φ h a k = all-keep-le (λ q. leb (var q) 1023) (λ q. not (isVar a q)) (φ .prefix) (room-of φ h .numbers)
 
-pub weighed-end : (φ : Formula) → wellFormed φ ≡ true → (a k below : ℕ) → k ≡ pairs φ a → (r : Weighed) → r ≡ weighed below (resolvedTo φ a k)
-    → r ≡ weighed below (resultOf φ resolve a 0)
-weighed-end φ w a k below e r q = q ∙ ap (weighed below) (ap (resolvedTo φ a) e ∙ sym (result-is φ w a))
+pub permitted-there : (φ : Formula) (a : ℕ) → resolvePermitted φ a ≡ true → mentions (φ .prefix) a ≡ true
+permitted-there φ a ok = exists-mentioned (φ .prefix) a (resolve-says φ a ok .exists)
 
-pub permitted-there : (φ : Formula) (a : ℕ) (b : Bool) → b ≡ resolvePermitted φ a → b ≡ true → mentions (φ .prefix) a ≡ true
-permitted-there φ a b is e = exists-mentioned (φ .prefix) a (resolve-says φ a (sym is ∙ e) .exists)
+pub permitted-small : {φ : Formula} {t : List ℕ} {c : Counts} {ranks index : List ℕ} → Studied φ t c ranks index → (a : ℕ)
+    → resolvePermitted φ a ≡ true → a < 1024
+permitted-small {φ} {t} {c} {ranks} {index} g a ok =
+    by-cases (ltb a 1024) (λ t. ltb-true a 1024 t)
+    (λ t. let h = ltb-false a 1024 t in clash ok (sym (resolve-large φ a (entries-of φ (g .well) (g .holds .fitting)) (omega arith))))
 
 module _ (below : ℕ) (φ : Formula) (a : ℕ) (b : Bool) (is : b ≡ resolvePermitted φ a) where
   pub step-none : b ≡ false → Over ≡ weighedStep below φ resolve a

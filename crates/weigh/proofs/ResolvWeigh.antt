@@ -6,8 +6,8 @@ use mathlib.Core.Bool.{Bool, true, false, cond}
 use mathlib.Core.List.{List, []}
 use lib.ListN.{length, getD, take, drop}
 use lib.Seq.{getD-take, length-take-le}
-use lib.Dec.{leb}
-use borrow.Author.Tests.{lt-ltb, le-ltb}
+use lib.Dec.{ltb, leb}
+use borrow.Author.Tests.{lt-ltb, le-ltb, ltb-true, ltb-false}
 use native.Mathlib.Omega.{arith}
 use Rattle.meaning.specs.Lists.{allOf, anyOf, same}
 use Rattle.meaning.specs.Formula.{Formula, var, mentions}
@@ -18,14 +18,15 @@ use Rattle.rules.specs.Step.{resultOf}
 use Rattle.table.specs.Table.{countsOf, clauseMore}
 use Rattle.table.specs.declared.Counts.{Counts}
 use Rattle.table.specs.declared.Pending.{Pending}
-use Rattle.weigh.specs.Weights.{weighed}
+use Rattle.weigh.specs.Weights.{weighed, Summable}
+use Rattle.weigh.specs.declared.Weighed.{Weighed}
 use Rattle.weigh.specs.declared.Weighed.the-variants.{Over, Fitting, Wide}
-use Rattle.weigh.specs.Resolving.{restOf, rawResolvents, pairs, resolventAt, resolvedTo, becomes, cameBefore, tidiedIn, Bounded}
-use Rattle.meaning.proofs.Basics.{false-of}
+use Rattle.weigh.specs.Resolving.{restOf, rawResolvents, pairs, resolventAt, resolvedTo, becomes, cameBefore, tidiedIn, Bounded, CountedTo}
+use Rattle.meaning.proofs.Basics.{false-of, by-cases}
 use Rattle.meaning.proofs.Parts.{room-of, of-room}
 use Rattle.table.proofs.LoopLaws.{any-found, any-turn, any-end}
 use Rattle.weigh.proofs.ResolvBuild.{add-none, add-clauses, add-literals}
-use Rattle.weigh.proofs.ResolvResult.{resolved-next, resolved-grows, became-at, pair-free}
+use Rattle.weigh.proofs.ResolvResult.{resolved-next, resolved-grows, became-at, pair-free, result-is}
 
 -- Whether a clause came before: the loop over the first k pairs ---------------------------------------------------------------
 module _ (φ : Formula) (w : wellFormed φ ≡ true) (a k : ℕ) (h : k < pairs φ a) (c : List ℕ) (j : ℕ)
@@ -102,6 +103,16 @@ module _ {k : ℕ} {d : Counts} (b : Bounded k d) where
   pub bounded-up : (m : ℕ) → k ≤ m → Bounded m d
   bounded-up m h = record { variables = b .variables; clauses = omega (arith, b .clauses); all-literals = omega (arith, b .all-literals) }
 
+  pub bounded-sums : k ≤ 4190209 → (d .variables ≤ 1023) × Summable d
+  bounded-sums h = (
+    b .variables,
+    record {
+      variables = omega (arith, b .variables);
+      clauses = omega (arith, b .clauses);
+      all-literals = omega (arith, b .all-literals);
+    },
+  )
+
 -- Against the bound ----------------------------------------------------------------------------------------------------------
 module _ (ψ : Formula) (d : Counts) (is : d ≡ countsOf ψ (d .second)) where
   pub weight-is : d .variables + (d .clauses + d .literals) ≡ weight ψ
@@ -140,8 +151,36 @@ module _ (ψ : Formula) (d : Counts) (is : d ≡ countsOf ψ (d .second)) where
           }) in
           ap Fitting e ∙ sym (light ∙ rw f)
 
--- after k pairs: the whole result is not lighter
-pub over-early : (φ : Formula) → wellFormed φ ≡ true → (a k below n : ℕ) → n ≡ weight (resolvedTo φ a k) → below ≤ n
-    → Over ≡ weighed below (resultOf φ resolve a 0)
-unfolding weighed
-over-early φ w a k below n e h = rw (le-ltb (weight (resultOf φ resolve a 0)) below (omega (arith, resolved-grows φ w a k)))
+-- The counts when the loop over the pairs stops ---------------------------------------------------------------------------------
+module _ (φ : Formula) (w : wellFormed φ ≡ true) (a : ℕ) (d : Counts) where
+  -- it reached the bound, after k pairs
+  pub counted-early : (k below n : ℕ) → d ≡ countsOf (resolvedTo φ a k) (d .second) → n ≡ weight (resolvedTo φ a k) → below ≤ n
+      → CountedTo φ a below d
+  counted-early k below n is e h = record { some = k; counted = is; whole = λ l. absurd (omega arith) }
+
+  -- there is no pair more
+  pub counted-all : (k below : ℕ) → d ≡ countsOf (resolvedTo φ a k) (d .second) → k ≡ pairs φ a → CountedTo φ a below d
+  counted-all k below is e = record { some = k; counted = is; whole = λ l. e }
+
+  module _ (below : ℕ) (g : CountedTo φ a below d) where
+    whole-result : weight (resolvedTo φ a (g .some)) < below → resolvedTo φ a (g .some) ≡ resultOf φ resolve a 0
+    whole-result l = ap (resolvedTo φ a) (g .whole l) ∙ sym (result-is φ w a)
+
+    still-over : ltb (weight (resolvedTo φ a (g .some))) below ≡ false → weighed below (resolvedTo φ a (g .some)) ≡ weighed below (resultOf φ resolve a 0)
+    unfolding weighed
+    still-over t =
+        let h = ltb-false (weight (resolvedTo φ a (g .some))) below t in
+        rw (t, le-ltb (weight (resultOf φ resolve a 0)) below (omega (arith, resolved-grows φ w a (g .some))))
+
+    -- what is said of some of the result is said of the whole
+    pub weighed-whole : (r : Weighed) → r ≡ weighed below (resolvedTo φ a (g .some)) → r ≡ weighed below (resultOf φ resolve a 0)
+    weighed-whole r said =
+        said ∙ by-cases (ltb (weight (resolvedTo φ a (g .some))) below)
+        (λ t. ap (weighed below) (whole-result (ltb-true _ _ t)))
+        (λ t. still-over t)
+
+    -- a bound that the counts cannot reach
+    pub counted-whole : Summable d → 5005002046 < below → d ≡ countsOf (resultOf φ resolve a 0) (d .second)
+    counted-whole s h =
+        let e = weight-is (resolvedTo φ a (g .some)) d (g .counted) in
+        g .counted ∙ ap (λ (ψ : Formula). countsOf ψ (d .second)) (whole-result (omega (arith, s .variables, s .clauses, s .all-literals)))

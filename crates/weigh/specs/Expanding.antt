@@ -9,6 +9,7 @@ use lib.ListN.{length}
 use Rattle.meaning.specs.Lists.{anyOf, keepIf}
 use Rattle.meaning.specs.Formula.{var, odd, mentions, existential}
 use Rattle.meaning.specs.WellFormed.{maxVariables, maxClauses, maxLiterals}
+use Rattle.table.specs.declared.Counts.{Counts}
 use Rattle.permits.specs.Places.{placeOf}
 use Rattle.weigh.specs.declared.Weighed.{Weighed}
 use Rattle.weigh.specs.declared.Weighed.the-variants.{Over, Fitting, Wide}
@@ -60,13 +61,14 @@ pub record Small (s : Size) : Type 0 where
   pub clauses : s .clauses ≤ 2 * maxClauses
   pub literals : s .literals ≤ 2 * maxLiterals * maxClauses
 
--- of v variables one is dropped, and k copies are added
-unfoldable pub weightOf : ℕ → ℕ → Size → ℕ
-weightOf v k s = (v - 1 + k) + (s .clauses + s .literals)
+-- Against a bound, by the counts of the result -------------------------------------------------------------------------
+unfoldable pub weightOf : Counts → ℕ
+weightOf d = d .variables + (d .clauses + d .literals)
 
--- "Copies take the smallest numbers not in the prefix before the step": they are in range exactly if there are so many
-unfoldable pub sizeFits : ℕ → ℕ → Size → Bool
-sizeFits v k s = leb (v + k) maxVariables && (leb (s .clauses) maxClauses && leb (s .literals) maxLiterals)
+-- "Copies take the smallest numbers not in the prefix before the step": they are in range exactly if they and the prefix before the step,
+-- which had one variable more, are so many
+unfoldable pub countsFit : Counts → Bool
+countsFit d = ltb (d .variables) maxVariables && (leb (d .clauses) maxClauses && leb (d .literals) maxLiterals)
 
-unfoldable pub weighedSize : ℕ → ℕ → ℕ → Size → Weighed
-weighedSize below v k s = cond (ltb (weightOf v k s) below) (cond (sizeFits v k s) (Fitting (weightOf v k s)) Wide) Over
+unfoldable pub weighedCounts : ℕ → Counts → Weighed
+weighedCounts below d = cond (ltb (weightOf d) below) (cond (countsFit d) (Fitting (weightOf d)) Wide) Over

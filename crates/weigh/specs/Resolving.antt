@@ -1,15 +1,17 @@
 -- Step 6, resolve, resolvent by resolvent: what the k-th of them is, and the result with the first k only.
 -- Assumes nothing.
-use Prim.Native.Nat.{ℕ, _+_, _*_, _/_, _%_, _≤_}
+use mathlib.Core.Path.{_≡_}
+use Prim.Native.Nat.{ℕ, _+_, _*_, _/_, _%_, _≤_, _<_}
 use mathlib.Core.Bool.{Bool, false, _||_, cond}
 use mathlib.Core.List.{List, [], _∷_, _++_}
 use lib.Dec.{ltb}
 use lib.ListN.{length, getD, take}
 use Rattle.meaning.specs.Lists.{allOf, anyOf, has, same, without}
 use Rattle.meaning.specs.Formula.{Formula, plain, negated, dropVar}
+use Rattle.meaning.specs.WellFormed.{weight}
 use Rattle.meaning.specs.Tidy.{Tidied, dropped, kept, tidy, buildOn}
 use Rattle.rules.specs.Eliminate.{withLit, withoutVar, resolvents}
-use Rattle.table.specs.Table.{Holds}
+use Rattle.table.specs.Table.{Holds, countsOf}
 use Rattle.table.specs.declared.Counts.{Counts}
 use Rattle.table.specs.declared.Pending.{Pending}
 use Rattle.index.specs.Index.{Indexes}
@@ -91,3 +93,9 @@ pub record Bounded (k : ℕ) (d : Counts) : Type 0 where
   pub variables : d .variables ≤ 1023
   pub clauses : d .clauses ≤ 2047 + k
   pub all-literals : d .literals ≤ 8191 + 1023 * k
+
+-- the counts of the result with some of the resolvents: with all of them, unless these reach the bound already
+pub record CountedTo (φ : Formula) (a below : ℕ) (d : Counts) : Type 0 where
+  pub some : ℕ
+  pub counted : d ≡ countsOf (resolvedTo φ a some) (d .second)
+  pub whole : weight (resolvedTo φ a some) < below → some ≡ pairs φ a

@@ -10,10 +10,10 @@ ghost use Rattle.meaning.specs.WellFormed.{wellFormed};
 ghost use Rattle.rules.specs.Eliminate.{expandPermitted};
 ghost use Rattle.rules.specs.Entry.{expand};
 ghost use Rattle.rules.specs.Step.{resultOf};
-ghost use Rattle.table.specs.Table.{Holds, Held};
+ghost use Rattle.table.specs.Table.{Holds, Held, countsOf};
 ghost use Rattle.table.specs.Ranks.{ranksOf, goodEntries};
-ghost use Rattle.weigh.specs.Weights.{weighed, weighedStep, NoneSubsumed};
-ghost use Rattle.weigh.specs.Expanding.{existentials, innerLit, reaches, shareOf, clausesOf, literalsOf, expandedSize, sizeFits, weighedSize, Small};
+ghost use Rattle.weigh.specs.Weights.{weighedStep, NoneSubsumed, Summable};
+ghost use Rattle.weigh.specs.Expanding.{existentials, innerLit, reaches, shareOf, clausesOf, literalsOf, expandedSize, countsFit, weighedCounts, Small};
 use crate::Weighed;
 use permits::expand_permitted;
 use permits::is_existential;
@@ -156,27 +156,27 @@ fn expanded_size(t: &[u16], c: Counts, ranks: &[u16], n: usize, a: usize) -> Siz
     }
 }
 
-// Whether a size passes no limit, with k copies for v variables.
-fn size_fits(v: usize, k: usize, size: Size) -> bool
-    requires { ⌜ (v ≤ 1023) × (k ≤ 1023) ⌝ }
-    ensures { λ r. ⌜ r ≡ sizeFits v k size ⌝ }
+// Whether these counts of the result pass no limit. A copy numbered over the limit passes it too, and the number of the expanded variable is
+// none of the copies', so that one variable fewer fits.
+fn counts_fit(d: Counts) -> bool
+    ensures { λ r. ⌜ r ≡ countsFit d ⌝ }
 {
-    if v + k <= Counts::VARIABLES {
-        if size.clauses <= Counts::CLAUSES {
-            return size.literals <= Counts::LITERALS;
+    if d.variables < Counts::VARIABLES {
+        if d.clauses <= Counts::CLAUSES {
+            return d.literals <= Counts::LITERALS;
         }
     }
     false
 }
 
-// A size against the bound.
-fn weigh_size(below: usize, v: usize, k: usize, size: Size) -> Weighed
-    requires { ⌜ (0 < v) × (v ≤ 1023) × (k ≤ 1023) × Small size ⌝ }
-    ensures { λ r. ⌜ r ≡ weighedSize below v k size ⌝ }
+// The counts of the result against the bound.
+fn weigh_expanded(below: usize, d: Counts) -> Weighed
+    requires { ⌜ Summable d ⌝ }
+    ensures { λ r. ⌜ r ≡ weighedCounts below d ⌝ }
 {
-    let weight = v - 1 + k + (size.clauses + size.literals);
+    let weight = d.variables + (d.clauses + d.literals);
     if weight < below {
-        if size_fits(v, k, size) {
+        if counts_fit(d) {
             return Weighed::Fitting(weight);
         }
         return Weighed::Wide;
@@ -184,16 +184,24 @@ fn weigh_size(below: usize, v: usize, k: usize, size: Size) -> Weighed
     Weighed::Over
 }
 
-// The result of expanding a, where that is permitted.
-fn weigh_permitted(t: &[u16], c: Counts, ranks: &[u16], a: usize, below: usize) -> Weighed
+// The counts of the whole result of expanding a, whether it fits or not, where that is permitted, for a formula in which no clause is a part
+// of another.
+pub fn expanded_counts(t: &[u16], c: Counts, ranks: &[u16], a: usize) -> Counts
     requires { ⌜ Held (now t) c ⌝ }
     requires { ⌜ (length (now ranks) ≡ 1024) × (0 < c .variables) ⌝ }
-    ensures { λ r. ⌜ ((φ : Formula) → Holds φ (now (t .entry)) c → wellFormed φ ≡ true → now (ranks .entry) ≡ ranksOf (φ .prefix) → NoneSubsumed φ → expandPermitted φ a ≡ true → r ≡ weighed below (resultOf φ expand a 0)) ⌝ }
+    ensures { λ r. ⌜ Summable r ⌝ }
+    ensures { λ r. ⌜ ((φ : Formula) → Holds φ (now (t .entry)) c → wellFormed φ ≡ true → now (ranks .entry) ≡ ranksOf (φ .prefix) → NoneSubsumed φ → expandPermitted φ a ≡ true → r ≡ countsOf (resultOf φ expand a 0) (r .second)) ⌝ }
 {
     let v = c.variables;
     let n = place_of(ranks, a);
     let k = count_existentials(&t[..v], n);
-    weigh_size(below, v, k, expanded_size(t, c, ranks, n, a))
+    let size = expanded_size(t, c, ranks, n, a);
+    Counts {
+        variables: v - 1 + k,
+        clauses: size.clauses,
+        literals: size.literals,
+        second: c.second,
+    }
 }
 
 // What the result of expanding a would weigh, for a formula in which no clause is a part of another.
@@ -206,7 +214,7 @@ pub fn weigh_expand(t: &[u16], c: Counts, ranks: &[u16], a: usize, below: usize)
         return Weighed::Over;
     }
     if expand_permitted(t, c, ranks, a) {
-        return weigh_permitted(t, c, ranks, a, below);
+        return weigh_expanded(below, expanded_counts(t, c, ranks, a));
     }
     Weighed::Over
 }

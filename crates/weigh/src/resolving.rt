@@ -1,20 +1,20 @@
 // Step 6, resolve: the weight of its result, against a bound.
 ghost use mathlib.Core.Path.{_≡_};
-ghost use Prim.Native.Nat.{_<_};
+ghost use Prim.Native.Nat.{_<_, _≤_};
 ghost use mathlib.Core.Bool.{true};
 ghost use lib.Dec.{leb};
 ghost use lib.ListN.{length};
 ghost use Rattle.meaning.specs.Lists.{allOf};
 ghost use Rattle.meaning.specs.Formula.{Formula, var, mentions};
-ghost use Rattle.meaning.specs.WellFormed.{weight};
 ghost use Rattle.rules.specs.Eliminate.{resolvePermitted};
 ghost use Rattle.rules.specs.Entry.{resolve};
 ghost use Rattle.rules.specs.Step.{resultOf};
 ghost use Rattle.table.specs.Table.{countsOf};
 ghost use Rattle.index.specs.Study.{Studied, Study};
-ghost use Rattle.weigh.specs.Weights.{weighed, weighedStep};
-ghost use Rattle.weigh.specs.Resolving.{Filed, File, resolvedTo, Bounded};
+ghost use Rattle.weigh.specs.Weights.{weighed, weighedStep, Summable};
+ghost use Rattle.weigh.specs.Resolving.{Filed, File, resolvedTo, Bounded, CountedTo};
 use crate::Weighed;
+use crate::counts::weight_of;
 use crate::pairing::add_pair;
 use crate::pairing::pair_count;
 use crate::sides::count_with;
@@ -25,17 +25,12 @@ use permits::is_existential;
 use permits::place_of;
 use table::Counts;
 
-// The weight of a formula with these counts.
-fn weight_of(d: Counts) -> usize
-    requires { ⌜ Bounded 5000000 d ⌝ }
-    ensures { λ r. ⌜ ((ψ : Formula) → d ≡ countsOf ψ (d .second) → r ≡ weight ψ) ⌝ }
-{
-    d.variables + (d.clauses + d.literals)
-}
+// A weight that no result reaches: 2,047 clauses with a literal and 2,047 with its opposite have fewer resolvents.
+const UNREACHED: usize = 10000000000;
 
 // What is said of a formula with these counts, whose prefix passes no limit.
 fn weigh_counts(d: Counts, below: usize) -> Weighed
-    requires { ⌜ Bounded 5000000 d ⌝ }
+    requires { ⌜ (d .variables ≤ 1023) × Summable d ⌝ }
     ensures { λ r. ⌜ ((ψ : Formula) → d ≡ countsOf ψ (d .second) → allOf (λ q. leb (var q) 1023) (ψ .prefix) ≡ true → r ≡ weighed below ψ) ⌝ }
 {
     let w = weight_of(d);
@@ -69,8 +64,9 @@ fn counts_left(t: &[u16], c: Counts, index: &[u16], a: usize) -> Counts
     }
 }
 
-// What is said of the result, where d counts what is left without the variable. It stops as soon as the bound is reached.
-fn weigh_pairs(
+// The counts of the result, where d counts what is left without the variable. It stops as soon as their weight reaches the bound: the result's
+// weight does so too.
+fn count_pairs(
     t: &[u16],
     c: Counts,
     ranks: &[u16],
@@ -80,31 +76,34 @@ fn weigh_pairs(
     a: usize,
     d: Counts,
     below: usize,
-) -> Weighed
+) -> Counts
     requires { ⌜ Study (now t) c (now ranks) (now index) ⌝ }
     requires { ⌜ (length (now scratch) ≡ 1023) × (length (now again) ≡ 1023) × (a < 1024) ⌝ }
     requires { ⌜ Bounded 0 d ⌝ }
-    ensures { λ r. ⌜ ((φ : Formula) → Studied φ (now (t .entry)) c (now (ranks .entry)) (now (index .entry)) → d ≡ countsOf (resolvedTo φ a 0) (d .second) → r ≡ weighed below (resultOf φ resolve a 0)) ⌝ }
+    ensures { λ r. ⌜ (r .variables ≤ 1023) × Summable r ⌝ }
+    ensures { λ r. ⌜ ((φ : Formula) → Studied φ (now (t .entry)) c (now (ranks .entry)) (now (index .entry)) → d ≡ countsOf (resolvedTo φ a 0) (d .second) → CountedTo φ a below r) ⌝ }
 {
     let n = pair_count(index, a);
     let mut e = d;
     let mut k = 0;
     while k < n {
         if below <= weight_of(e) {
-            return Weighed::Over;
+            return e;
         }
         e = add_pair(t, c, ranks, index, scratch, again, a, k, e);
         k += 1;
     }
-    weigh_counts(e, below)
+    e
 }
 
 // Whether a is an existential that may be resolved: the clauses with it, by the index, have no variable behind the first universal.
-fn may_resolve(t: &[u16], c: Counts, ranks: &[u16], index: &[u16], a: usize) -> bool
+pub fn may_resolve(t: &[u16], c: Counts, ranks: &[u16], index: &[u16], a: usize) -> bool
     requires { ⌜ Study (now t) c (now ranks) (now index) ⌝ }
-    requires { ⌜ a < 1024 ⌝ }
     ensures { λ r. ⌜ ((φ : Formula) → Studied φ (now (t .entry)) c (now (ranks .entry)) (now (index .entry)) → r ≡ resolvePermitted φ a) ⌝ }
 {
+    if Counts::VARIABLES < a {
+        return false;
+    }
     if is_existential(ranks, a) {
         let v = c.variables;
         let n = first_universal(&t[..v], place_of(ranks, a));
@@ -115,6 +114,26 @@ fn may_resolve(t: &[u16], c: Counts, ranks: &[u16], index: &[u16], a: usize) -> 
         return false;
     }
     false
+}
+
+// The counts of the whole result of resolving a, whether it fits or not, where that is permitted.
+pub fn resolved_counts(
+    t: &[u16],
+    c: Counts,
+    ranks: &[u16],
+    index: &[u16],
+    scratch: &mut [u16],
+    again: &mut [u16],
+    a: usize,
+) -> Counts
+    requires { ⌜ Study (now t) c (now ranks) (now index) ⌝ }
+    requires { ⌜ (length (now scratch) ≡ 1023) × (length (now again) ≡ 1023) ⌝ }
+    requires { ⌜ ((φ : Formula) → Studied φ (now t) c (now ranks) (now index) → resolvePermitted φ a ≡ true) ⌝ }
+    ensures { λ r. ⌜ Summable r ⌝ }
+    ensures { λ r. ⌜ ((φ : Formula) → Studied φ (now (t .entry)) c (now (ranks .entry)) (now (index .entry)) → r ≡ countsOf (resultOf φ resolve a 0) (r .second)) ⌝ }
+{
+    let d = counts_left(t, c, index, a);
+    count_pairs(t, c, ranks, index, scratch, again, a, d, UNREACHED)
 }
 
 // What the result of resolving a would weigh, against a bound.
@@ -132,12 +151,10 @@ pub fn weigh_resolve(
     requires { ⌜ (length (now scratch) ≡ 1023) × (length (now again) ≡ 1023) ⌝ }
     ensures { λ r. ⌜ ((φ : Formula) → Studied φ (now (t .entry)) c (now (ranks .entry)) (now (index .entry)) → r ≡ weighedStep below φ resolve a) ⌝ }
 {
-    if Counts::VARIABLES < a {
-        return Weighed::Over;
-    }
     if may_resolve(t, c, ranks, index, a) {
         let d = counts_left(t, c, index, a);
-        return weigh_pairs(t, c, ranks, index, scratch, again, a, d, below);
+        let e = count_pairs(t, c, ranks, index, scratch, again, a, d, below);
+        return weigh_counts(e, below);
     }
     Weighed::Over
 }

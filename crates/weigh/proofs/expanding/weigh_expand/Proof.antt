@@ -12,14 +12,19 @@ returns c = λ φ h w e none. step-none h w _ _ (c .if1 .taken)
 expand-permitted-requires : tie.Need-expand-permitted-requires
 expand-permitted-requires c κs = search needs
 
-weigh-permitted-requires : tie.Need-weigh-permitted-requires
-weigh-permitted-requires c κs = search needs
+expanded-counts-requires : tie.Need-expanded-counts-requires
+expanded-counts-requires c κs = search needs
+
+weigh-expanded-requires : tie.Need-weigh-expanded-requires
+weigh-expanded-requires c κs = c .expanded-counts .ensures .0
 
 returns-2 : tie.Need-returns-2
 returns-2 c =
-    let p = c .before .before in
+    let d = c .before in
+    let p = d .before .before in
+    let t = d .before .if2 .taken in
     λ φ h w e none. let s = p .expand-permitted .ensures φ h w e in
-    step-is h w _ _ _ s (c .before .if2 .taken) _ (c .weigh-permitted .ensures φ h w e none (sym s ∙ c .before .if2 .taken))
+    step-is h w _ _ _ s t _ (d .expanded-counts .ensures .1 φ h w e none (sym s ∙ t)) _ (c .weigh-expanded .ensures)
 
 returns-3 : tie.Need-returns-3
 returns-3 c = λ φ h w e none. step-not h w _ _ _ (c .before .expand-permitted .ensures φ h w e) (c .if2 .left)
@@ -30,6 +35,7 @@ weigh-expand-spec =
     (tie.spec
     returns
     expand-permitted-requires
-    weigh-permitted-requires
+    expanded-counts-requires
+    weigh-expanded-requires
     returns-2
     returns-3)

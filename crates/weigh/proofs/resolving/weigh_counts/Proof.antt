@@ -21,7 +21,7 @@ returns-3 c =
 returns-4 : tie.Need-returns-4
 returns-4 c =
     let l = c .before .before .before .before in
-    λ ψ e s. weighed-fitting ψ _ e _ _ (l .before .weight-of .ensures ψ e) (l .if1 .left) s (l .before .before .pre .variables)
+    λ ψ e s. weighed-fitting ψ _ e _ _ (l .before .weight-of .ensures ψ e) (l .if1 .left) s (l .before .before .pre .0)
     (c .before .before .if2 .left) (c .if3 .left)
 
 pub weigh-counts-spec : {M : Type 1} → statement M

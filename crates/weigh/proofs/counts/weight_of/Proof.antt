@@ -1,8 +1,8 @@
 -- Assumes nothing.
 use Rattle.weigh.proofs.ResolvWeigh.{weight-is}
 use borrow.Author.Needs.{needs}
-use Rattle.weigh.proofs.resolving.weight_of.Statement.{statement}
-use Rattle.weigh.proofs.resolving.weight_of.Tie as tie
+use Rattle.weigh.proofs.counts.weight_of.Statement.{statement}
+use Rattle.weigh.proofs.counts.weight_of.Tie as tie
 
 add-result : tie.Need-add-result
 add-result c = search needs

@@ -8,9 +8,9 @@ use borrow.Author.Needs.{needs}
 use Rattle.table.proofs.HoldLaws.{bounds}
 use Rattle.permits.proofs.PlaceLaws.{entries-of}
 use Rattle.weigh.proofs.ExpandLoops.{existentials-few, take-few}
-use Rattle.weigh.proofs.ExpandWeight.{weighed-held}
-use Rattle.weigh.proofs.expanding.weigh_permitted.Statement.{statement}
-use Rattle.weigh.proofs.expanding.weigh_permitted.Tie as tie
+use Rattle.weigh.proofs.ExpandWeight.{counts-held}
+use Rattle.weigh.proofs.expanding.expanded_counts.Statement.{statement}
+use Rattle.weigh.proofs.expanding.expanded_counts.Tie as tie
 
 place-of-requires : tie.Need-place-of-requires
 place-of-requires c κs = search needs
@@ -26,30 +26,42 @@ count-existentials-requires c κs =
 expanded-size-requires : tie.Need-expanded-size-requires
 expanded-size-requires c κs = search needs
 
-weigh-size-requires : tie.Need-weigh-size-requires
-weigh-size-requires c κs =
+sub-t11 : tie.Need-sub-t11
+sub-t11 c = search needs
+
+add-t12 : tie.Need-add-t12
+add-t12 c =
     let k = c .before in
     let s = k .before .before .before .before .before in
     let v = bounds (s .pre .0) .variables in
     let few = take-few (s .args .c .variables) 1023 (s .args .t .now) v in
     let prefix = take (s .args .c .variables) (s .args .t .now) in
-    (s .pre .1 .1, v, existentials-few prefix (k .before .before .place-of .result) _ 1023 (k .count-existentials .ensures) few, c .expanded-size .ensures .0)
+    let e = existentials-few prefix (k .before .before .place-of .result) _ 1023 (k .count-existentials .ensures) few in
+    search needs
 
 returns : tie.Need-returns
 returns c =
-    let s = c .before in
-    let k = s .before in
-    λ φ h w e none ok. weighed-held h w _ _ ok none _ _ _
-    (k .before .before .place-of .ensures (φ .prefix) e (entries-of φ w (h .fitting))) (k .count-existentials .ensures)
-    (s .expanded-size .ensures .1 φ h w e) _ (c .weigh-size .ensures)
+    let k = c .before in
+    let s = k .before .before .before .before .before in
+    let v = bounds (s .pre .0) .variables in
+    let few = take-few (s .args .c .variables) 1023 (s .args .t .now) v in
+    let prefix = take (s .args .c .variables) (s .args .t .now) in
+    let e = existentials-few prefix (k .before .before .place-of .result) _ 1023 (k .count-existentials .ensures) few in
+    let z = c .expanded-size .ensures .0 in (
+      record { variables = omega arith; clauses = omega (arith, z .clauses); all-literals = omega (arith, z .literals) },
+      λ φ h w q none ok. counts-held h w _ ok none _ _ _
+          (k .before .before .place-of .ensures (φ .prefix) q (entries-of φ w (h .fitting))) (k .count-existentials .ensures)
+          (c .expanded-size .ensures .1 φ h w q) _,
+    )
 
-pub weigh-permitted-spec : {M : Type 1} → statement M
-weigh-permitted-spec =
+pub expanded-counts-spec : {M : Type 1} → statement M
+expanded-counts-spec =
     tie.close
     (tie.spec
     place-of-requires
     slice-aggregate-count-existentials
     count-existentials-requires
     expanded-size-requires
-    weigh-size-requires
+    sub-t11
+    add-t12
     returns)

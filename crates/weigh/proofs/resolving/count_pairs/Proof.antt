@@ -10,11 +10,10 @@ use Rattle.index.specs.Study.{Studied}
 use Rattle.index.proofs.ReadLaws.{studied-indexes, study-indexed}
 use Rattle.weigh.specs.Resolving.{resolvedTo, Bounded}
 use Rattle.weigh.proofs.ResolvFile.{pairs-few}
-use Rattle.weigh.proofs.ResolvWeigh.{bounded-up, over-early}
-use Rattle.weigh.proofs.ResolvStart.{rest-small, weighed-end}
+use Rattle.weigh.proofs.ResolvWeigh.{bounded-sums, counted-early, counted-all}
 use borrow.Author.Needs.{needs}
-use Rattle.weigh.proofs.resolving.weigh_pairs.Statement.{statement}
-use Rattle.weigh.proofs.resolving.weigh_pairs.Tie as tie
+use Rattle.weigh.proofs.resolving.count_pairs.Statement.{statement}
+use Rattle.weigh.proofs.resolving.count_pairs.Tie as tie
 
 abbrev Inv-loop : tie.InvT-loop
 Inv-loop t c ranks index scratch₀ again₀ a below n e₀ k₀ scratch again e k =
@@ -35,8 +34,8 @@ weight-of-requires c κs =
     let l = c .before in
     let s = l .before .before .before .before .before .before .before in
     let i = study-indexed (s .pre .0) in
-    bounded-up (l .loop .inv .3) 5000000
-    (omega (arith, l .loop .inv .0, l .before .pair-count .ensures (i .formula) (i .indexes), pairs-few (i .indexes) (s .args .a)))
+    bounded-sums (l .loop .inv .3)
+    (omega (arith, l .loop .inv .0, l .before .pair-count .ensures (i .formula) (i .indexes), pairs-few (i .indexes) (s .args .a))) .1
 
 same-length : tie.Need-same-length Inv-loop μ-loop
 same-length c = c .before .before .before .loop .inv .1
@@ -48,8 +47,13 @@ returns : tie.Need-returns Inv-loop μ-loop
 returns c =
     let w = c .before in
     let l = w .before .before in
-    λ φ g e. over-early φ (g .well) (l .before .before .before .before .before .before .before .args .a) (l .loop .k) _ _
-    (w .weight-of .ensures _ (l .loop .inv .4 φ g e)) (c .if1 .taken)
+    let s = l .before .before .before .before .before .before .before in
+    let i = study-indexed (s .pre .0) in (
+      bounded-sums (l .loop .inv .3)
+          (omega (arith, l .loop .inv .0, l .before .pair-count .ensures (i .formula) (i .indexes), pairs-few (i .indexes) (s .args .a))),
+      λ φ g e. let is = l .loop .inv .4 φ g e in
+          counted-early φ (g .well) (s .args .a) _ (l .loop .k) _ _ is (w .weight-of .ensures _ is) (c .if1 .taken),
+    )
 
 add-pair-requires : tie.Need-add-pair-requires Inv-loop μ-loop
 add-pair-requires c κs =
@@ -86,30 +90,25 @@ loop-again c =
       λ φ g e. p .add-pair .ensures .1 φ g (l .loop .inv .4 φ g e),
     )
 
-weigh-counts-requires : tie.Need-weigh-counts-requires Inv-loop μ-loop
-weigh-counts-requires c κs =
-    let l = c .before in
-    let s = l .before .before .before .before .before .before .before in
-    let i = study-indexed (s .pre .0) in
-    bounded-up (l .loop .inv .3) 5000000
-    (omega (arith, l .loop .inv .0, l .before .pair-count .ensures (i .formula) (i .indexes), pairs-few (i .indexes) (s .args .a)))
-
 same-length-3 : tie.Need-same-length-3 Inv-loop μ-loop
-same-length-3 c = c .before .before .loop .inv .1
+same-length-3 c = c .before .loop .inv .1
 
 same-length-4 : tie.Need-same-length-4 Inv-loop μ-loop
-same-length-4 c = c .before .before .loop .inv .2
+same-length-4 c = c .before .loop .inv .2
 
 returns-2 : tie.Need-returns-2 Inv-loop μ-loop
 returns-2 c =
-    let l = c .before .before in
-    let a = l .before .before .before .before .before .before .before .args .a in
-    λ φ g e. weighed-end φ (g .well) a (l .loop .k) _
-    (omega (arith, l .before .pair-count .ensures φ (studied-indexes g), l .loop .inv .0, c .before .loop-test .left)) _
-    (c .weigh-counts .ensures _ (l .loop .inv .4 φ g e) (rest-small φ (g .holds .fitting) a (l .loop .k)))
+    let l = c .before in
+    let s = l .before .before .before .before .before .before .before in
+    let i = study-indexed (s .pre .0) in (
+      bounded-sums (l .loop .inv .3)
+          (omega (arith, l .loop .inv .0, l .before .pair-count .ensures (i .formula) (i .indexes), pairs-few (i .indexes) (s .args .a))),
+      λ φ g e. counted-all φ (g .well) (s .args .a) _ (l .loop .k) _ (l .loop .inv .4 φ g e)
+          (omega (arith, l .before .pair-count .ensures φ (studied-indexes g), l .loop .inv .0, c .loop-test .left)),
+    )
 
-pub weigh-pairs-spec : {M : Type 1} → statement M
-weigh-pairs-spec =
+pub count-pairs-spec : {M : Type 1} → statement M
+count-pairs-spec =
     tie.close
     (tie.spec
     Inv-loop
@@ -124,7 +123,6 @@ weigh-pairs-spec =
     add-k
     loop-less
     loop-again
-    weigh-counts-requires
     same-length-3
     same-length-4
     returns-2)
