@@ -4,6 +4,8 @@ pub mod ResolvResult
 pub mod ResolvPairs
 pub mod ResolvSides
 pub mod ResolvPending
+pub mod ResolvFits
+pub mod ResolvRows
 pub mod ResolvFile
 pub mod ResolvWeigh
 pub mod ResolvStart

@@ -124,7 +124,7 @@ range-at (c ∷ cs) zero h = and-l (allOf inRange c) (allOf (allOf inRange) cs) 
 range-at (c ∷ cs) (suc i) h = range-at cs i (and-r (allOf inRange c) (allOf (allOf inRange) cs) h)
 
 module _ {φ : Formula} {t : List ℕ} {c : Counts} {index : List ℕ} (f : Filed φ t c index) where
-  side-range : (l i : ℕ) → allOf inRange (getD (withLit l (φ .clauses)) i []) ≡ true
+  pub side-range : (l i : ℕ) → allOf inRange (getD (withLit l (φ .clauses)) i []) ≡ true
   unfolding withLit
   side-range l i =
       range-at (withLit l (φ .clauses)) i (all-keep-le (allOf inRange) (has l) (φ .clauses) (clauses-range φ (f .indexes .well) (f .holds .fitting)))

@@ -14,7 +14,7 @@ use Rattle.weigh.specs.Resolving.{resolvent}
 use Rattle.meaning.proofs.Basics.{by-cases}
 use Rattle.table.proofs.ListLaws.{getD-skip}
 
-one-length : (a : ℕ) (x : List ℕ) (ys : List (List ℕ)) → length (resolventsOf a x ys) ≡ length ys
+pub one-length : (a : ℕ) (x : List ℕ) (ys : List (List ℕ)) → length (resolventsOf a x ys) ≡ length ys
 unfolding resolventsOf
 one-length a x [] = refl
 one-length a x (y ∷ ys) = ap suc (one-length a x ys)

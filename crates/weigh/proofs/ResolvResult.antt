@@ -63,8 +63,11 @@ module _ (φ : Formula) (w : wellFormed φ ≡ true) (a : ℕ) where
   base-bound : allOf (bound (restOf φ a)) (stayOf φ a) ≡ true
   base-bound = and-l (allOf (bound (restOf φ a)) (stayOf φ a)) (allOf (bound (restOf φ a)) (rawResolvents φ a)) all-bound
 
-  raws-bound : allOf (bound (restOf φ a)) (rawResolvents φ a) ≡ true
+  pub raws-bound : allOf (bound (restOf φ a)) (rawResolvents φ a) ≡ true
   raws-bound = and-r (allOf (bound (restOf φ a)) (stayOf φ a)) (allOf (bound (restOf φ a)) (rawResolvents φ a)) all-bound
+
+  pub raw-free : (raw : List ℕ) → bound (restOf φ a) raw ≡ true → mentions raw a ≡ false
+  raw-free raw b = bound-not (restOf φ a) raw b a (drop-not a (φ .prefix))
 
   -- a clause that stays is tidy under the prefix that is left
   stays-tidy : (c : List ℕ) → (bound (restOf φ a) c && (tidyClause (φ .prefix) c && not (mentions c a))) ≡ true → tidyClause (restOf φ a) c ≡ true

@@ -28,30 +28,6 @@ use Rattle.table.proofs.LoopLaws.{any-found, any-turn, any-end}
 use Rattle.weigh.proofs.ResolvBuild.{add-none, add-clauses, add-literals}
 use Rattle.weigh.proofs.ResolvResult.{resolved-next, resolved-grows, became-at, pair-free, result-is}
 
--- Whether a clause came before: the loop over the first k pairs ---------------------------------------------------------------
-module _ (φ : Formula) (w : wellFormed φ ≡ true) (a k : ℕ) (h : k < pairs φ a) (c : List ℕ) (j : ℕ)
-    (inv : cameBefore φ a k c ≡ anyOf (λ raw. becomes c (tidy (restOf φ a) raw)) (drop j (take k (rawResolvents φ a)))) where
-  first-length : length (take k (rawResolvents φ a)) ≡ k
-  unfolding pairs
-  first-length = length-take-le k (rawResolvents φ a) (omega arith)
-
-  first-at : j < k → (b : Bool) → b ≡ becomes c (resolventAt φ a j) → becomes c (tidy (restOf φ a) (getD (take k (rawResolvents φ a)) j [])) ≡ b
-  first-at l b e =
-      ap (λ (raw : List ℕ). becomes c (tidy (restOf φ a) raw)) (getD-take k (rawResolvents φ a) j [] l) ∙ became-at φ w a j (omega arith) c ∙ sym e
-
-  module _ (b : Bool) (is : b ≡ becomes c (resolventAt φ a j)) where
-    pub before-found : j < k → b ≡ true → true ≡ cameBefore φ a k c
-    before-found l e =
-        any-found (λ raw. becomes c (tidy (restOf φ a) raw)) [] (take k (rawResolvents φ a)) j inv (omega (arith, first-length)) (first-at l b is ∙ e)
-
-    pub before-turn : j < k → b ≡ false
-        → cameBefore φ a k c ≡ anyOf (λ raw. becomes c (tidy (restOf φ a) raw)) (drop (j + 1) (take k (rawResolvents φ a)))
-    before-turn l e =
-        any-turn (λ raw. becomes c (tidy (restOf φ a) raw)) [] (take k (rawResolvents φ a)) j inv (omega (arith, first-length)) (first-at l b is ∙ e)
-
-  pub before-end : k ≤ j → false ≡ cameBefore φ a k c
-  before-end l = any-end (λ raw. becomes c (tidy (restOf φ a) raw)) [] (take k (rawResolvents φ a)) j inv (omega (arith, first-length))
-
 -- The counts after one pair more -------------------------------------------------------------------------------------------
 module _ (φ : Formula) (w : wellFormed φ ≡ true) (a k : ℕ) (h : k < pairs φ a) (d : Counts) (is : d ≡ countsOf (resolvedTo φ a k) (d .second))
     (s : List ℕ) (p : Pending) (made : tidiedIn s p ≡ resolventAt φ a k) where

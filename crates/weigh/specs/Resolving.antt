@@ -4,10 +4,10 @@ use mathlib.Core.Path.{_≡_}
 use Prim.Native.Nat.{ℕ, _+_, _*_, _/_, _%_, _≤_, _<_}
 use mathlib.Core.Bool.{Bool, false, _||_, cond}
 use mathlib.Core.List.{List, [], _∷_, _++_}
-use lib.Dec.{ltb}
-use lib.ListN.{length, getD, take}
+use lib.Dec.{eqb, ltb}
+use lib.ListN.{length, getD, take, drop}
 use Rattle.meaning.specs.Lists.{allOf, anyOf, has, same, without}
-use Rattle.meaning.specs.Formula.{Formula, plain, negated, dropVar}
+use Rattle.meaning.specs.Formula.{Formula, var, plain, negated, dropVar, universal}
 use Rattle.meaning.specs.WellFormed.{weight}
 use Rattle.meaning.specs.Tidy.{Tidied, dropped, kept, tidy, buildOn}
 use Rattle.rules.specs.Eliminate.{withLit, withoutVar, resolvents}
@@ -62,6 +62,14 @@ resolvent a x y = without (plain a) x ++ without (negated a) y
 unfoldable pub covers : List ℕ → List ℕ → List ℕ → Bool
 covers x y c = allOf (λ l. has l x || has l y) c
 
+-- The literal l of a clause, of which the variable with the literal out is resolved, is in what tidying leaves of the resolvent, c:
+-- tidying takes away universals only
+unfoldable pub staysIn : List ℕ → List ℕ → ℕ → ℕ → Bool
+staysIn p c out l = eqb l out || (has l c || universal p (var l))
+
+unfoldable pub fitsIn : List ℕ → List ℕ → ℕ → List ℕ → Bool
+fitsIn p c out x = allOf (staysIn p c out) x
+
 -- what becomes of pair k
 unfoldable pub resolventAt : Formula → ℕ → ℕ → Tidied
 resolventAt φ a k = tidy (restOf φ a) (resolvent a (positiveAt φ a k) (negativeAt φ a k))
@@ -87,6 +95,16 @@ becomes c (kept d) = same c d
 -- one of the first k resolvents is the clause c
 unfoldable pub cameBefore : Formula → ℕ → ℕ → List ℕ → Bool
 cameBefore φ a k c = anyOf (λ raw. becomes c (tidy (restOf φ a) raw)) (take k (rawResolvents φ a))
+
+-- one of the resolvents of the clause x with the first m negative clauses is the clause c
+unfoldable pub anyGives : Formula → ℕ → List ℕ → ℕ → List ℕ → Bool
+anyGives φ a x m c =
+    anyOf (λ y. becomes c (tidy (φ .prefix) (resolvent a x y))) (take m (withLit (negated a) (φ .clauses)))
+
+-- one of the resolvents of the positive clause i with the first m negative ones is the clause c
+unfoldable pub rowGives : Formula → ℕ → ℕ → ℕ → List ℕ → Bool
+rowGives φ a i m c =
+    anyOf (λ raw. becomes c (tidy (restOf φ a) raw)) (take m (drop (i * length (withLit (negated a) (φ .clauses))) (rawResolvents φ a)))
 
 -- after k pairs: small enough counts for sums
 pub record Bounded (k : ℕ) (d : Counts) : Type 0 where

@@ -1,14 +1,17 @@
 // The pairs of a positive and a negative clause of step 6, by their numbers: what each adds to the result.
 ghost use mathlib.Core.Path.{_≡_};
 ghost use Prim.Native.Nat.{_+_, _≤_, _<_};
-ghost use mathlib.Core.Bool.{false};
+ghost use mathlib.Core.Bool.{true, false};
 ghost use lib.ListN.{length};
-ghost use Rattle.meaning.specs.Lists.{anyOf, same};
-ghost use Rattle.meaning.specs.Formula.{Formula, mentions};
+ghost use Rattle.meaning.specs.Lists.{allOf, anyOf, same};
+ghost use Rattle.meaning.specs.Formula.{Formula, mentions, plain, negated};
+ghost use Rattle.rules.specs.Eliminate.{withLit};
 ghost use Rattle.table.specs.Table.{countsOf, clauseMore};
+ghost use Rattle.table.specs.Pending.{inRange};
 ghost use Rattle.index.specs.Index.{Indexes, Indexed};
 ghost use Rattle.index.specs.Study.{Studied, Study};
-ghost use Rattle.weigh.specs.Resolving.{Filed, File, pairs, positiveAt, negativeAt, resolventAt, resolvedTo, tidiedIn, becomes, cameBefore, Bounded};
+ghost use Rattle.weigh.specs.Resolving.{Filed, File, pairs, positiveAt, negativeAt, resolventAt, resolvedTo, tidiedIn, anyGives, rowGives, cameBefore, Bounded};
+use crate::resolvents::fits_in;
 use crate::resolvents::is_resolvent;
 use crate::resolvents::resolve_pair;
 use crate::sides::clause_with;
@@ -69,27 +72,68 @@ fn resolvent_at(
     resolve_pair(scratch, x, y, a, ranks)
 }
 
-// Whether the resolvent of pair k is the clause.
-fn gives(
+// Whether the resolvent of x with one of the first m negative clauses is the clause: each is made again.
+fn any_gives(
     t: &[u16],
     c: Counts,
     ranks: &[u16],
     index: &[u16],
     again: &mut [u16],
     a: usize,
-    k: usize,
+    x: &[u16],
+    m: usize,
     clause: &[u16],
 ) -> bool
     requires { ⌜ Study (now t) c (now ranks) (now index) ⌝ }
-    requires { ⌜ (length (now again) ≡ 1023) × (a < 1024) × ((φ : Formula) → Indexes φ (now index) → k < pairs φ a) ⌝ }
-    ensures { λ r. ⌜ ((φ : Formula) → Studied φ (now (t .entry)) c (now (ranks .entry)) (now (index .entry)) → r ≡ becomes (now (clause .entry)) (resolventAt φ a k)) ⌝ }
+    requires { ⌜ (length (now again) ≡ 1023) × (a < 1024) × (allOf inRange (now x) ≡ true) ⌝ }
+    requires { ⌜ ((φ : Formula) → Indexes φ (now index) → m ≤ length (withLit (negated a) (φ .clauses))) ⌝ }
+    ensures { λ r. ⌜ ((φ : Formula) → Studied φ (now (t .entry)) c (now (ranks .entry)) (now (index .entry)) → r ≡ anyGives φ a (now (x .entry)) m (now (clause .entry))) ⌝ }
 {
-    let x = positive_at(t, c, index, a, k);
-    let y = negative_at(t, c, index, a, k);
-    is_resolvent(again, x, y, a, ranks, clause)
+    let literal = 2 * a as u16 + 1;
+    let mut j = 0;
+    while j < m {
+        if is_resolvent(
+            again,
+            x,
+            clause_with(t, c, index, literal, j),
+            a,
+            ranks,
+            clause,
+        ) {
+            return true;
+        }
+        j += 1;
+    }
+    false
 }
 
-// Whether one of the first k resolvents is the clause: each is made again.
+// The same of the positive clause i, which mostly has a literal that the clause lacks.
+fn row_gives(
+    t: &[u16],
+    c: Counts,
+    ranks: &[u16],
+    index: &[u16],
+    again: &mut [u16],
+    a: usize,
+    i: usize,
+    m: usize,
+    clause: &[u16],
+) -> bool
+    requires { ⌜ Study (now t) c (now ranks) (now index) ⌝ }
+    requires { ⌜ (length (now again) ≡ 1023) × (a < 1024) ⌝ }
+    requires { ⌜ ((φ : Formula) → Indexes φ (now index) → (i < length (withLit (plain a) (φ .clauses))) × (m ≤ length (withLit (negated a) (φ .clauses)))) ⌝ }
+    ensures { λ r. ⌜ ((φ : Formula) → Studied φ (now (t .entry)) c (now (ranks .entry)) (now (index .entry)) → r ≡ rowGives φ a i m (now (clause .entry))) ⌝ }
+{
+    let literal = 2 * a as u16;
+    let x = clause_with(t, c, index, literal, i);
+    if fits_in(x, literal, ranks, clause) {
+        return any_gives(t, c, ranks, index, again, a, x, m, clause);
+    }
+    false
+}
+
+// Whether one of the first k resolvents is the clause: those of each positive clause, then those of the one that pair k has, as far as these
+// came.
 fn came_before(
     t: &[u16],
     c: Counts,
@@ -104,14 +148,16 @@ fn came_before(
     requires { ⌜ (length (now again) ≡ 1023) × (a < 1024) × ((φ : Formula) → Indexes φ (now index) → k < pairs φ a) ⌝ }
     ensures { λ r. ⌜ ((φ : Formula) → Studied φ (now (t .entry)) c (now (ranks .entry)) (now (index .entry)) → r ≡ cameBefore φ a k (now (clause .entry))) ⌝ }
 {
-    let mut j = 0;
-    while j < k {
-        if gives(t, c, ranks, index, again, a, j, clause) {
+    let n = count_with(index, 2 * a as u16 + 1);
+    let last = k / n;
+    let mut i = 0;
+    while i < last {
+        if row_gives(t, c, ranks, index, again, a, i, n, clause) {
             return true;
         }
-        j += 1;
+        i += 1;
     }
-    false
+    row_gives(t, c, ranks, index, again, a, last, k % n, clause)
 }
 
 // Whether the clause, which does not have the variable, is there after the first k pairs.

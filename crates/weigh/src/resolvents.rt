@@ -7,9 +7,10 @@ ghost use lib.ListN.{length};
 ghost use Rattle.meaning.specs.Lists.{allOf, has, without};
 ghost use Rattle.meaning.specs.Tidy.{tidy};
 ghost use Rattle.meaning.specs.WellFormed.{goodPrefix};
-ghost use Rattle.table.specs.Ranks.{ranksOf};
+ghost use Rattle.table.specs.Ranks.{ranksOf, goodEntries};
 ghost use Rattle.table.specs.Pending.{inRange, Pends, Pended};
-ghost use Rattle.weigh.specs.Resolving.{resolvent, covers, becomes, tidiedIn};
+ghost use Rattle.weigh.specs.Resolving.{resolvent, covers, staysIn, fitsIn, becomes, tidiedIn};
+use permits::is_universal;
 use table::Pending;
 use table::contains;
 use table::equal;
@@ -91,6 +92,36 @@ fn covered(clause: &[u16], x: &[u16], y: &[u16]) -> bool
     let mut i = 0;
     while i < clause.len() {
         if in_either(clause[i], x, y) {
+            i += 1;
+        } else {
+            return false;
+        }
+    }
+    true
+}
+
+// Whether the literal stays in the resolvent that is the clause, if one: it is the one left out, or is there, or tidying may take it away.
+fn stays_in(literal: u16, out: u16, ranks: &[u16], clause: &[u16]) -> bool
+    requires { ⌜ length (now ranks) ≡ 1024 ⌝ }
+    ensures { λ r. ⌜ ((q : List ℕ) → goodEntries q ≡ true → now (ranks .entry) ≡ ranksOf q → r ≡ staysIn q (now (clause .entry)) out literal) ⌝ }
+{
+    if literal == out {
+        return true;
+    }
+    if contains(clause, literal) {
+        return true;
+    }
+    is_universal(ranks, (literal / 2) as usize)
+}
+
+// Whether all literals of x do so: else the clause is no resolvent of x.
+pub fn fits_in(x: &[u16], out: u16, ranks: &[u16], clause: &[u16]) -> bool
+    requires { ⌜ length (now ranks) ≡ 1024 ⌝ }
+    ensures { λ r. ⌜ ((q : List ℕ) → goodEntries q ≡ true → now (ranks .entry) ≡ ranksOf q → r ≡ fitsIn q (now (clause .entry)) out (now (x .entry))) ⌝ }
+{
+    let mut i = 0;
+    while i < x.len() {
+        if stays_in(x[i], out, ranks, clause) {
             i += 1;
         } else {
             return false;

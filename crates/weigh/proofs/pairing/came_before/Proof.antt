@@ -1,52 +1,91 @@
--- The loop's invariant: the pairs from j to k decide.
+-- The loop's invariant: the pairs from the positive clause i on decide.
 -- Assumes nothing.
-use Prim.Native.Nat.{_≤_, _-_}
+use Prim.Native.Nat.{_≤_, _-_, _*_}
 use mathlib.Core.Path.{_≡_, refl, _∙_}
 use native.Mathlib.Omega.{arith}
-use lib.ListN.{length, take, drop}
-use Rattle.meaning.specs.Lists.{anyOf}
-use Rattle.meaning.specs.Formula.{Formula}
-use Rattle.meaning.specs.Tidy.{tidy}
+use lib.ListN.{length}
+use Rattle.meaning.specs.Formula.{Formula, plain, negated}
 use Rattle.index.specs.Study.{Studied}
-use Rattle.index.proofs.ReadLaws.{studied-indexes}
-use Rattle.weigh.specs.Resolving.{restOf, rawResolvents, becomes, cameBefore}
-use Rattle.weigh.proofs.ResolvWeigh.{before-found, before-turn, before-end}
+use Rattle.index.proofs.ReadLaws.{studied-indexes, study-indexed}
+use Rattle.weigh.specs.Resolving.{cameBefore}
+use Rattle.weigh.proofs.ResolvFile.{listed-few, some-pairs, positive-there, negative-there}
+use Rattle.weigh.proofs.ResolvRows.{rowsFrom, rows-start, rows-found, rows-turn, rows-end}
 use borrow.Author.Needs.{needs}
 use Rattle.weigh.proofs.pairing.came_before.Statement.{statement}
 use Rattle.weigh.proofs.pairing.came_before.Tie as tie
 
 abbrev Inv-loop : tie.InvT-loop
-Inv-loop t c ranks index again₀ a k clause j₀ again j =
-    (j ≤ k) × (length again ≡ length again₀)
-    × ((φ : Formula) → Studied φ t c ranks index → cameBefore φ a k clause
-    ≡ anyOf (λ raw. becomes clause (tidy (restOf φ a) raw)) (drop j (take k (rawResolvents φ a))))
+Inv-loop t c ranks index again₀ a k clause n last i₀ again i =
+    (i ≤ last) × (length again ≡ length again₀)
+    × ((φ : Formula) → Studied φ t c ranks index → cameBefore φ a k clause ≡ rowsFrom φ a k i clause)
 
 abbrev μ-loop : tie.MeasureT-loop
-μ-loop t c ranks index again₀ a k clause j₀ again j = k - j
+μ-loop t c ranks index again₀ a k clause n last i₀ again i = last - i
+
+cast-count-with : tie.Need-cast-count-with Inv-loop μ-loop
+cast-count-with c = search needs
+
+mul-count-with : tie.Need-mul-count-with Inv-loop μ-loop
+mul-count-with c = search needs
+
+add-count-with : tie.Need-add-count-with Inv-loop μ-loop
+add-count-with c = search needs
+
+count-with-requires : tie.Need-count-with-requires Inv-loop μ-loop
+count-with-requires c κs = study-indexed (c .before .before .before .before .before .pre .0)
+
+div-last : tie.Need-div-last Inv-loop μ-loop
+div-last c =
+    let s = c .before .before .before .before .before .before in
+    let i = study-indexed (s .pre .0) in
+    omega (
+      arith,
+      some-pairs (i .formula) (s .args .a) (s .args .k) _ (s .pre .1 .2 (i .formula) (i .indexes))
+          (c .count-with .ensures (i .formula) (i .indexes)),
+    )
 
 loop-holds : tie.Need-loop-holds Inv-loop μ-loop
-unfolding cameBefore
-loop-holds c = (omega arith, refl, λ φ g. refl)
+loop-holds c = (omega arith, refl, λ φ g. rows-start φ _ _ _)
 
-gives-requires : tie.Need-gives-requires Inv-loop μ-loop
-gives-requires c κs =
-    let l = c .before .before in
-    let s = l .before .before .before .before .before .before in
-    (s .pre .0, (l .loop .inv .1 ∙ s .pre .1 .0, s .pre .1 .1, λ φ h. omega (arith, s .pre .1 .2 φ h, c .before .loop-test .taken)))
+row-gives-requires : tie.Need-row-gives-requires Inv-loop μ-loop
+unfolding plain negated
+row-gives-requires c κs =
+    let i = c .before in
+    let l = i .before in
+    let n = l .before in
+    let s = n .before .before .before .before .before .before in (
+      s .pre .0,
+      (
+        (l .loop .inv .1 ∙ s .pre .1 .0, s .pre .1 .1),
+        λ φ h. let e = n .count-with .ensures φ h in
+            (omega (arith, i .loop-test .taken, positive-there φ (s .args .a) (s .args .k) _ (s .pre .1 .2 φ h) e), omega (arith, e)),
+      ),
+    )
 
 same-length : tie.Need-same-length Inv-loop μ-loop
-same-length c = let g = c .before .before .before in g .gives .kept .1 .1 .1 .1 .0 ∙ g .before .before .before .loop .inv .1
+same-length c = let g = c .before .before .before in g .row-gives .kept .1 .1 .1 .1 .0 ∙ g .before .before .before .loop .inv .1
 
 returns : tie.Need-returns Inv-loop μ-loop
 returns c =
     let g = c .before .before .before in
     let l = g .before .before .before in
-    let s = l .before .before .before .before .before .before in
-    λ φ d. before-found φ (d .well) (s .args .a) (s .args .k) (s .pre .1 .2 φ (studied-indexes d)) _ (l .loop .j) (l .loop .inv .2 φ d) _
-    (g .gives .ensures φ d) (g .before .before .loop-test .taken) (c .if1 .taken)
+    let n = l .before in
+    let s = n .before .before .before .before .before .before in
+    λ φ d. let x = studied-indexes d in let e = n .count-with .ensures φ x in
+    rows-found φ (s .args .a) (s .args .k) _ e (some-pairs φ (s .args .a) (s .args .k) _ (s .pre .1 .2 φ x) e) _ (l .loop .i) (l .loop .inv .2 φ d)
+    (g .before .before .loop-test .taken) _ (g .row-gives .ensures φ d) (c .if1 .taken)
 
-add-j : tie.Need-add-j Inv-loop μ-loop
-add-j c = search needs
+add-i : tie.Need-add-i Inv-loop μ-loop
+add-i c =
+    let g = c .before .before .before in
+    let n = g .before .before .before .before in
+    let s = n .before .before .before .before .before .before in
+    let i = study-indexed (s .pre .0) in
+    let t = g .before .before .loop-test .taken in
+    let few = listed-few (i .indexes) (2 * s .args .a) in
+    let there = positive-there (i .formula) (s .args .a) (s .args .k) _ (s .pre .1 .2 (i .formula) (i .indexes))
+    (n .count-with .ensures (i .formula) (i .indexes)) in
+    search needs
 
 loop-less : tie.Need-loop-less Inv-loop μ-loop
 loop-less c = search needs
@@ -55,22 +94,53 @@ loop-again : tie.Need-loop-again Inv-loop μ-loop
 loop-again c =
     let g = c .before .before .before in
     let l = g .before .before .before in
-    let s = l .before .before .before .before .before .before in (
+    let n = l .before in
+    let s = n .before .before .before .before .before .before in (
       omega (arith, g .before .before .loop-test .taken),
-      g .gives .kept .1 .1 .1 .1 .0 ∙ l .loop .inv .1,
-      λ φ d. before-turn φ (d .well) (s .args .a) (s .args .k) (s .pre .1 .2 φ (studied-indexes d)) _ (l .loop .j) (l .loop .inv .2 φ d) _
-          (g .gives .ensures φ d) (g .before .before .loop-test .taken) (c .if1 .left),
+      g .row-gives .kept .1 .1 .1 .1 .0 ∙ l .loop .inv .1,
+      λ φ d. let x = studied-indexes d in let e = n .count-with .ensures φ x in
+          rows-turn φ (s .args .a) (s .args .k) _ e (some-pairs φ (s .args .a) (s .args .k) _ (s .pre .1 .2 φ x) e) _ (l .loop .i)
+          (l .loop .inv .2 φ d) (g .before .before .loop-test .taken) _ (g .row-gives .ensures φ d) (c .if1 .left),
+    )
+
+rem-row-gives : tie.Need-rem-row-gives Inv-loop μ-loop
+rem-row-gives c =
+    let n = c .before .before .before in
+    let s = n .before .before .before .before .before .before in
+    let i = study-indexed (s .pre .0) in
+    omega (
+      arith,
+      some-pairs (i .formula) (s .args .a) (s .args .k) _ (s .pre .1 .2 (i .formula) (i .indexes))
+          (n .count-with .ensures (i .formula) (i .indexes)),
+    )
+
+row-gives-requires-2 : tie.Need-row-gives-requires-2 Inv-loop μ-loop
+unfolding plain negated
+row-gives-requires-2 c κs =
+    let l = c .before .before in
+    let n = l .before in
+    let s = n .before .before .before .before .before .before in (
+      s .pre .0,
+      (
+        (l .loop .inv .1 ∙ s .pre .1 .0, s .pre .1 .1),
+        λ φ h. let e = n .count-with .ensures φ h in let k = s .pre .1 .2 φ h in
+            (positive-there φ (s .args .a) (s .args .k) _ k e, omega (arith, negative-there φ (s .args .a) (s .args .k) _ k e)),
+      ),
     )
 
 same-length-2 : tie.Need-same-length-2 Inv-loop μ-loop
-same-length-2 c = c .before .loop .inv .1
+same-length-2 c = let g = c .before .before in g .row-gives2 .kept .1 .1 .1 .1 .0 ∙ g .before .before .before .loop .inv .1
 
 returns-2 : tie.Need-returns-2 Inv-loop μ-loop
 returns-2 c =
-    let l = c .before in
-    let s = l .before .before .before .before .before .before in
-    λ φ d. before-end φ (d .well) (s .args .a) (s .args .k) (s .pre .1 .2 φ (studied-indexes d)) _ (l .loop .j) (l .loop .inv .2 φ d)
-    (omega (arith, c .loop-test .left))
+    let g = c .before .before in
+    let a = g .before .before in
+    let l = a .before in
+    let n = l .before in
+    let s = n .before .before .before .before .before .before in
+    λ φ d. let x = studied-indexes d in let e = n .count-with .ensures φ x in
+    rows-end φ (s .args .a) (s .args .k) _ e (some-pairs φ (s .args .a) (s .args .k) _ (s .pre .1 .2 φ x) e) _ (l .loop .i) (l .loop .inv .2 φ d)
+    (omega (arith, l .loop .inv .0, a .loop-test .left)) _ (g .row-gives2 .ensures φ d)
 
 pub came-before-spec : {M : Type 1} → statement M
 came-before-spec =
@@ -78,12 +148,19 @@ came-before-spec =
     (tie.spec
     Inv-loop
     μ-loop
+    cast-count-with
+    mul-count-with
+    add-count-with
+    count-with-requires
+    div-last
     loop-holds
-    gives-requires
+    row-gives-requires
     same-length
     returns
-    add-j
+    add-i
     loop-less
     loop-again
+    rem-row-gives
+    row-gives-requires-2
     same-length-2
     returns-2)
