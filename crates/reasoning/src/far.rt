@@ -15,25 +15,12 @@ ghost use Rattle.reasoning.specs.declared.Why.{Why};
 ghost use Rattle.reasoning.specs.declared.Why.the-variants as why;
 use crate::Why;
 use crate::behind::universal_after;
+use crate::variables::has_variable;
 use permits::first_universal;
 use permits::is_within;
 use permits::place_of;
 use table::Counts;
 use table::clause_at;
-
-// Whether the clause has a literal of the variable.
-fn has_variable(clause: &[u16], v: usize) -> bool
-    ensures { λ r. ⌜ r ≡ mentions (now (clause .entry)) v ⌝ }
-{
-    let mut i = 0;
-    while i < clause.len() {
-        if (clause[i] / 2) as usize == v {
-            return true;
-        }
-        i += 1;
-    }
-    false
-}
 
 // Whether the clause has x, and a variable behind place n.
 fn reaches_far(clause: &[u16], ranks: &[u16], x: usize, n: usize) -> bool

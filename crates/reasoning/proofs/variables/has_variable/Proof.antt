@@ -1,4 +1,4 @@
--- The loop's invariant: what is left of the clause decides.
+-- The loop's invariant: what is left of the list decides.
 -- Assumes nothing.
 use Prim.Native.Nat.{_≤_, _-_}
 use mathlib.Core.Path.{_≡_}
@@ -7,14 +7,14 @@ use lib.ListN.{length, drop}
 use borrow.Author.Needs.{needs}
 use Rattle.meaning.specs.Formula.{mentions}
 use Rattle.weigh.proofs.ExpandLoops.{variable-found, variable-turn, variable-end}
-use Rattle.reasoning.proofs.far.has_variable.Statement.{statement}
-use Rattle.reasoning.proofs.far.has_variable.Tie as tie
+use Rattle.reasoning.proofs.variables.has_variable.Statement.{statement}
+use Rattle.reasoning.proofs.variables.has_variable.Tie as tie
 
 abbrev Inv-loop : tie.InvT-loop
-Inv-loop clause a i₀ i = (i ≤ length clause) × (mentions clause a ≡ mentions (drop i clause) a)
+Inv-loop list v i₀ i = (i ≤ length list) × (mentions list v ≡ mentions (drop i list) v)
 
 abbrev μ-loop : tie.MeasureT-loop
-μ-loop clause a i₀ i = length clause - i
+μ-loop list v i₀ i = length list - i
 
 loop-holds : tie.Need-loop-holds Inv-loop μ-loop
 loop-holds c = search needs
