@@ -9,8 +9,6 @@ use Rattle.reasoning.proofs.BehindLaws.{existential-is}
 use borrow.Author.Needs.{needs}
 use Rattle.reasoning.proofs.behind.existential_after.Statement.{statement}
 use Rattle.reasoning.proofs.behind.existential_after.Tie as tie
-use Rattle.permits.proofs.place_of.Reads as place-of-reads
-use Rattle.reasoning.proofs.behind.existential_behind.Reads as existential-behind-reads
 
 slice-aggregate-existential-behind : tie.Need-slice-aggregate-existential-behind
 slice-aggregate-existential-behind c = let b = bounds (c .before .before .before .pre .0) in sym (length-take-le _ _ (omega arith))

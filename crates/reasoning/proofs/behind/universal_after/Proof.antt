@@ -9,8 +9,6 @@ use Rattle.reasoning.proofs.BehindLaws.{universal-is}
 use borrow.Author.Needs.{needs}
 use Rattle.reasoning.proofs.behind.universal_after.Statement.{statement}
 use Rattle.reasoning.proofs.behind.universal_after.Tie as tie
-use Rattle.permits.proofs.place_of.Reads as place-of-reads
-use Rattle.reasoning.proofs.behind.universal_behind.Reads as universal-behind-reads
 
 slice-aggregate-universal-behind : tie.Need-slice-aggregate-universal-behind
 slice-aggregate-universal-behind c = let b = bounds (c .before .before .before .pre .0) in sym (length-take-le _ _ (omega arith))

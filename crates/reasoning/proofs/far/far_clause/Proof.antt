@@ -16,8 +16,6 @@ use Rattle.reasoning.proofs.FarLaws.{far-start, far-found, far-turn, fa
 use borrow.Author.Needs.{needs}
 use Rattle.reasoning.proofs.far.far_clause.Statement.{statement}
 use Rattle.reasoning.proofs.far.far_clause.Tie as tie
-use Rattle.reasoning.proofs.far.reaches_far.Reads as reaches-far-reads
-use Rattle.table.proofs.clause_at.Reads as clause-at-reads
 
 abbrev Inv-loop : tie.InvT-loop
 Inv-loop t c ranks x n i₀ i = (i ≤ c .clauses) × ((φ : Formula) → Holds φ t c → wellFormed φ ≡ true → ranks ≡ ranksOf (φ .prefix) → farPart φ x ≡ drop n (φ .prefix) → firstIndex (reachesFar (drop n (φ .prefix)) x) (φ .clauses) ≡ i + firstIndex (reachesFar (drop n (φ .prefix)) x) (drop i (φ .clauses)))

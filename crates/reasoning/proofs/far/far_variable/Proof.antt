@@ -8,8 +8,6 @@ use Rattle.reasoning.proofs.FarLaws.{variable-is, variable-none}
 use borrow.Author.Needs.{needs}
 use Rattle.reasoning.proofs.far.far_variable.Statement.{statement}
 use Rattle.reasoning.proofs.far.far_variable.Tie as tie
-use Rattle.reasoning.proofs.far.leftmost_behind.Reads as leftmost-behind-reads
-use Rattle.table.proofs.clause_at.Reads as clause-at-reads
 
 returns : tie.Need-returns
 returns c = λ φ h. variable-none h (c .before .before .before .args .n) _ (c .if1 .taken)

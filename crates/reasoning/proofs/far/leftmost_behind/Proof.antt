@@ -11,7 +11,6 @@ use Rattle.reasoning.proofs.BehindLaws.{first-found, first-turn, first-
 use borrow.Author.Needs.{needs}
 use Rattle.reasoning.proofs.far.leftmost_behind.Statement.{statement}
 use Rattle.reasoning.proofs.far.leftmost_behind.Tie as tie
-use Rattle.reasoning.proofs.far.has_variable.Reads as has-variable-reads
 
 abbrev Inv-loop : tie.InvT-loop
 Inv-loop prefix n clause i₀ i = firstOf (λ q. mentions clause (var q)) (drop n prefix) ≡ firstOf (λ q. mentions clause (var q)) (drop i prefix)

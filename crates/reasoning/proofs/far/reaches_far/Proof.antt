@@ -6,8 +6,6 @@ use Rattle.reasoning.proofs.FarLaws.{reaches-is, reaches-not}
 use borrow.Author.Needs.{needs}
 use Rattle.reasoning.proofs.far.reaches_far.Statement.{statement}
 use Rattle.reasoning.proofs.far.reaches_far.Tie as tie
-use Rattle.permits.proofs.is_within.Reads as is-within-reads
-use Rattle.reasoning.proofs.far.has_variable.Reads as has-variable-reads
 
 has-variable-requires : tie.Need-has-variable-requires
 has-variable-requires c κs = search needs

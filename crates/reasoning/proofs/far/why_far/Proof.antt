@@ -9,11 +9,6 @@ use Rattle.reasoning.proofs.FarLaws.{part-is, far-is-variable}
 use borrow.Author.Needs.{needs}
 use Rattle.reasoning.proofs.far.why_far.Statement.{statement}
 use Rattle.reasoning.proofs.far.why_far.Tie as tie
-use Rattle.permits.proofs.place_of.Reads as place-of-reads
-use Rattle.permits.proofs.first_universal.Reads as first-universal-reads
-use Rattle.reasoning.proofs.behind.universal_after.Reads as universal-after-reads
-use Rattle.reasoning.proofs.far.far_clause.Reads as far-clause-reads
-use Rattle.reasoning.proofs.far.far_variable.Reads as far-variable-reads
 
 slice-aggregate-first-universal : tie.Need-slice-aggregate-first-universal
 slice-aggregate-first-universal c = let b = bounds (c .before .before .before .pre .0) in sym (length-take-le _ _ (omega arith))
