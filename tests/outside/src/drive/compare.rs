@@ -14,7 +14,7 @@ use std::time::Instant;
 /// Calls are sent in batches of this many.
 const BATCH: usize = 64;
 
-/// After so many deaths of the program the rest is not tried.
+/// If the program ends before its input more often than this, the rest is not tried.
 const DEATHS: usize = 20;
 
 pub struct Options {
@@ -103,13 +103,13 @@ impl Session {
                     let what = shown::differences(&got, &wanted).join("; ");
                     self.report(group, first + i, call, &what, Some(&got), &wanted);
                 }
-                Err(e) => {
+                Err(trouble) => {
                     self.tally.failed += 1;
-                    self.report(group, first + i, call, &e, None, &wanted);
+                    self.report(group, first + i, call, &trouble.what, None, &wanted);
                     self.probe = None;
                     self.deaths += 1;
-                    if self.deaths > DEATHS {
-                        println!("the program has died {DEATHS} times: the rest is not tried");
+                    if trouble.hangs || self.deaths > DEATHS {
+                        println!("the program hangs or has ended too often: the rest is not tried");
                         std::process::exit(self.tally.finish());
                     }
                     return i + 1;
@@ -162,7 +162,7 @@ impl Session {
             let ended = Probe::start(&self.options.command).and_then(|probe| {
                 probe.send(bytes.clone());
                 probe.send(last);
-                let first = probe.receive()?;
+                let first = probe.receive().map_err(|trouble| trouble.what)?;
                 if first != wanted {
                     return Err("the call before has another result".to_string());
                 }

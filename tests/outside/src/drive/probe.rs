@@ -12,6 +12,12 @@ const PATIENCE: Duration = Duration::from_secs(300);
 
 const ENDS: &str = "the program's output ends";
 
+/// Why there is no result. A program that hangs is not tried again: that would take too long.
+pub struct Trouble {
+    pub what: String,
+    pub hangs: bool,
+}
+
 pub struct Probe {
     child: Child,
     calls: Option<Sender<Vec<u8>>>,
@@ -60,11 +66,14 @@ impl Probe {
         }
     }
 
-    pub fn receive(&self) -> Result<Reply, String> {
+    pub fn receive(&self) -> Result<Reply, Trouble> {
         match self.results.recv_timeout(PATIENCE) {
-            Ok(result) => result,
-            Err(RecvTimeoutError::Timeout) => Err(format!("no result within {} seconds", PATIENCE.as_secs())),
-            Err(RecvTimeoutError::Disconnected) => Err("the program's output has ended".to_string()),
+            Ok(Ok(reply)) => Ok(reply),
+            Ok(Err(what)) => Err(Trouble { what, hangs: false }),
+            Err(RecvTimeoutError::Disconnected) => Err(Trouble { what: ENDS.to_string(), hangs: false }),
+            Err(RecvTimeoutError::Timeout) => {
+                Err(Trouble { what: format!("no result within {} seconds", PATIENCE.as_secs()), hangs: true })
+            }
         }
     }
 
@@ -76,8 +85,8 @@ impl Probe {
     fn nothing_more(&mut self) -> Result<(), String> {
         self.calls = None;
         match self.receive() {
-            Err(end) if end == ENDS => Ok(()),
-            Err(other) => Err(other),
+            Err(trouble) if trouble.what == ENDS => Ok(()),
+            Err(trouble) => Err(trouble.what),
             Ok(_) => Err("a result that no call asked for".to_string()),
         }
     }
