@@ -1,32 +1,70 @@
 //! Entries for a formula: permitted ones of each kind, near misses, unused bits set, and any 32 bits.
 
 use crate::model::entry::{entry, uses_b, Entry};
-use crate::model::formula::{opposite, Formula};
+use crate::model::formula::{opposite, var, Formula};
 use crate::model::steps::whole;
 use crate::rng::Rng;
 
 /// An entry of the kind with indexes and variables that are there, or nearly.
 pub fn near(rng: &mut Rng, f: &Formula, kind: u32) -> Entry {
-    let clause = |rng: &mut Rng| match rng.below(12) {
+    match kind {
+        1 => entry(1, clause(rng, f), 0),
+        2 | 6 | 7 => entry(kind, variable(rng, f, kind), 0),
+        4 if rng.coin() => nearly_a_part(rng, f),
+        _ => {
+            let a = clause(rng, f);
+            let b = if rng.once_in(15) { a } else { clause(rng, f) };
+            entry(kind, a, b)
+        }
+    }
+}
+
+/// A clause index, at times one past the last or any other.
+fn clause(rng: &mut Rng, f: &Formula) -> u32 {
+    match rng.below(12) {
         0 => f.clauses.len().min(2047) as u32,
         1 => rng.below(2048) as u32,
         _ => rng.below(f.clauses.len().max(1)) as u32,
-    };
-    let variable = |rng: &mut Rng| match rng.below(12) {
+    }
+}
+
+/// A variable of the prefix, most times with the quantifier that the kind asks for; at times one that may not be there.
+fn variable(rng: &mut Rng, f: &Formula, kind: u32) -> u32 {
+    let wanted: Vec<u32> = f.prefix.iter().filter(|b| b.is_existential() == (kind == 6)).map(|b| b.var).collect();
+    match rng.below(12) {
         0 => 0,
         1 => rng.below(2048) as u32,
         2 => 1 + rng.below(12) as u32,
         _ if f.prefix.is_empty() => 1,
+        3..=8 if kind >= 6 && !wanted.is_empty() => *rng.pick(&wanted),
         _ => rng.pick(&f.prefix).var,
-    };
-    match kind {
-        1 => entry(1, clause(rng), 0),
-        2 | 6 | 7 => entry(kind, variable(rng), 0),
-        _ => {
-            let a = clause(rng);
-            let b = if rng.once_in(15) { a } else { clause(rng) };
-            entry(kind, a, b)
+    }
+}
+
+/// Kind 4 with a clause that is a part of the other but for one turned literal, whatever its quantifier: with a universal one
+/// the step is not permitted.
+fn nearly_a_part(rng: &mut Rng, f: &Formula) -> Entry {
+    let mut pairs = Vec::new();
+    for (a, first) in f.clauses.iter().enumerate() {
+        for (b, second) in f.clauses.iter().enumerate() {
+            let turned = first.iter().filter(|&&l| second.contains(&opposite(l))).count();
+            if turned == 1 && first.iter().all(|&l| second.contains(&l) || second.contains(&opposite(l))) {
+                pairs.push(entry(4, a as u32, b as u32));
+            }
         }
+    }
+    let places = f.places();
+    let universal = |e: &Entry| {
+        let turned = |l: &&u32| f.clauses[e.b as usize].contains(&opposite(**l));
+        f.clauses[e.a as usize].iter().find(turned).is_some_and(|&l| !places.is_existential(var(l)))
+    };
+    let with_universal: Vec<Entry> = pairs.iter().copied().filter(universal).collect();
+    if !with_universal.is_empty() {
+        *rng.pick(&with_universal)
+    } else if !pairs.is_empty() {
+        *rng.pick(&pairs)
+    } else {
+        entry(4, clause(rng, f), clause(rng, f))
     }
 }
 
