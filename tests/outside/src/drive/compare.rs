@@ -24,7 +24,7 @@ pub struct Options {
     pub command: Vec<String>,
 }
 
-struct Session {
+struct Comparison {
     options: Options,
     probe: Option<Probe>,
     deaths: usize,
@@ -35,36 +35,36 @@ struct Session {
 
 pub fn compare(options: Options) -> i32 {
     let kept = std::env::temp_dir().join(format!("outside-{}", std::process::id()));
-    let mut session = Session { options, probe: None, deaths: 0, tally: Tally::default(), reported: 0, kept };
-    println!("seed {}", session.options.seed);
+    let mut it = Comparison { options, probe: None, deaths: 0, tally: Tally::default(), reported: 0, kept };
+    println!("seed {}", it.options.seed);
     let mut whole = Coverage::default();
-    let only = session.options.only.clone();
+    let only = it.options.only.clone();
     for group in groups().into_iter().filter(|g| g.name.starts_with(&only)) {
         let began = Instant::now();
-        let failed = session.tally.failed;
-        let coverage = session.run_group(&group);
+        let failed = it.tally.failed;
+        let coverage = it.run_group(&group);
         println!(
             "{}: {} cases, {} failed, {:.1} s ({})",
             group.name,
             group.count,
-            session.tally.failed - failed,
+            it.tally.failed - failed,
             began.elapsed().as_secs_f64(),
             coverage.line()
         );
         whole.add(coverage);
     }
-    if let Some(probe) = session.probe.take() {
+    if let Some(probe) = it.probe.take() {
         let ended = probe.finish();
-        session.tally.check(ended.is_ok(), || format!("at the end of the input: {}", ended.unwrap_err()));
+        it.tally.check(ended.is_ok(), || format!("at the end of the input: {}", ended.unwrap_err()));
     }
     if only.is_empty() {
-        session.ends_of_the_protocol();
-        whole.finish(&mut session.tally);
+        it.ends_of_the_protocol();
+        whole.finish(&mut it.tally);
     }
-    session.tally.finish()
+    it.tally.finish()
 }
 
-impl Session {
+impl Comparison {
     fn run_group(&mut self, group: &Group) -> Coverage {
         let mut coverage = Coverage::default();
         let mut next = 0;
