@@ -1,18 +1,19 @@
 -- Stamps in a filter, and a filter that covers a table.
 -- Assumes nothing.
-use Prim.Native.Nat.{ℕ, _<_}
+use Prim.Native.Nat.{ℕ, _+_, _≤_, _<_}
 use mathlib.Core.Path.{_≡_, refl, sym, ap, _∙_, subst}
 use mathlib.Core.Bool.{Bool, true, false, cond}
 use mathlib.Core.List.{List, [], _∷_, _++_}
 use native.Mathlib.Omega.{arith}
 use lib.Bits.{bitOr}
 use lib.Dec.{eqb}
-use lib.ListN.{length, getD, length-set}
-use lib.Seq.{getD-set-same, getD-set-other}
+use native.Mathlib.Numerals.{add-one}
+use lib.ListN.{length, getD, take, length-set}
+use lib.Seq.{getD-set-same, getD-set-other, take-suc, take-all}
 use Rattle.meaning.specs.Lists.{allOf, anyOf, same}
 use Rattle.meaning.specs.Formula.{Formula}
 use Rattle.meaning.specs.Tidy.{kept, addTidied}
-use Rattle.table.specs.Table.{cut, decode, withNewClause, Holds}
+use Rattle.table.specs.Table.{decode, withNewClause, Holds}
 use Rattle.table.specs.Answer.{Became}
 use Rattle.table.specs.declared.Counts.{Counts}
 use Rattle.table.specs.declared.Pushed.{Pushed}
@@ -25,11 +26,11 @@ use Rattle.filter.specs.Filter.{hashOf, wordOf, bitsOf, marked, withStam
 use Rattle.filter.proofs.BitLaws.{put-own, put-more}
 
 -- Stamps --------------------------------------------------------------------------------------------------------
-word-small : (h : ℕ) → wordOf h < 256
+word-small : (h : ℕ) → wordOf h < 128
 unfolding wordOf
 word-small h = omega arith
 
-module _ (f x : List ℕ) (long : length f ≡ 256) where
+module _ (f x : List ℕ) (long : length f ≡ 128) where
   abbrev at : List ℕ → ℕ
   at c = wordOf (hashOf c)
 
@@ -84,10 +85,33 @@ not-there f x (c ∷ cs) a n =
     (λ q. clash q (not-there f x cs (and-r (stamped f c) (allOf (stamped f) cs) a) n)))
 
 -- A filter that covers a table ------------------------------------------------------------------------------------
--- any filter covers a table with no clause
-pub covers-none : (t f : List ℕ) (c : Counts) → c .clauses ≡ 0 → length f ≡ 256 → Covers t c f
-unfolding decode cut allOf
-covers-none t f c n e = record { long = e; every = rw n }
+-- the stamps of the first i clauses are in
+pub record Covered (cs : List (List ℕ)) (i : ℕ) (f : List ℕ) : Type 0 where
+  pub long : length f ≡ 128
+  pub every : allOf (stamped f) (take i cs) ≡ true
+
+pub covered-none : (cs : List (List ℕ)) (f : List ℕ) → length f ≡ 128 → Covered cs 0 f
+unfolding allOf
+covered-none cs f e = record { long = e; every = refl }
+
+module _ {cs : List (List ℕ)} {i : ℕ} {f : List ℕ} (k : Covered cs i f) where
+  -- one clause more
+  pub covered-next : i < length cs → (x f′ : List ℕ) → x ≡ getD cs i [] → f′ ≡ withStamp f x → Covered cs (i + 1) f′
+  covered-next h x f′ e q =
+      rw q
+      (record {
+        long = unfold withStamp in length-set f (wordOf (hashOf x)) (marked f x) ∙ k .long;
+        every =
+            rw (add-one i, take-suc cs i [] h, ← e)
+            (all-snoc (stamped (withStamp f x)) (take i cs) x
+            (all-le (stamped f) (stamped (withStamp f x)) (take i cs) (stamp-stays f x (k .long)) (k .every))
+            (stamp-own f x (k .long)));
+      })
+
+  -- all clauses
+  pub covered-all : {φ : Formula} {t : List ℕ} {c : Counts} → Holds φ t c → φ .clauses ≡ cs → length cs ≤ i → Covers t c f
+  covered-all {φ} {t} {c} h e n =
+      record { long = k .long; every = rw (decode-holds φ t c h, e) (rw (take-all i cs n) at (k .every)) }
 
 module _ {φ : Formula} {t : List ℕ} {c : Counts} (h : Holds φ t c) where
   module _ {f : List ℕ} (k : Covers t c f) (x : List ℕ) where

@@ -1,4 +1,4 @@
--- A filter: 256 words of 64 bits that have the stamps of clauses. Two clauses may have the same stamp, and a stamp may be there because
+-- A filter: 128 words of 64 bits that have the stamps of clauses. Two clauses may have the same stamp, and a stamp may be there because
 -- others have its bits; but the stamp of every clause of the table is there, so what is not stamped is not in the table.
 -- Assumes nothing.
 use mathlib.Core.Path.{_≡_}
@@ -20,12 +20,12 @@ hashOn h l = (h + l) * 1640531527 % 4294967296
 unfoldable pub hashOf : List ℕ → ℕ
 hashOf c = foldl hashOn 0 c
 
--- the stamp: the word is told by the 8 highest bits of the hash, each of the two bits in it by 6 more
+-- the stamp: the word is told by the 7 highest bits of the hash, each of the two bits in it by 6 more
 unfoldable pub wordOf : ℕ → ℕ
-wordOf h = h / 16777216 % 256
+wordOf h = h / 33554432 % 128
 
 unfoldable pub bitsOf : ℕ → ℕ
-bitsOf h = bitOr (2 ^ (h / 262144 % 64)) (2 ^ (h / 4096 % 64))
+bitsOf h = bitOr (2 ^ (h / 524288 % 64)) (2 ^ (h / 8192 % 64))
 
 -- the word of a clause's stamp with the stamp's bits
 unfoldable pub marked : List ℕ → List ℕ → ℕ
@@ -41,5 +41,5 @@ stamped f c = eqb (getD f (wordOf (hashOf c)) 0) (marked f c)
 
 -- the filter has the stamps of all clauses of the table t with the counts c
 pub record Covers (t : List ℕ) (c : Counts) (f : List ℕ) : Type 0 where
-  pub long : length f ≡ 256
+  pub long : length f ≡ 128
   pub every : allOf (stamped f) (decode t c .clauses) ≡ true

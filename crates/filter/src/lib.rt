@@ -1,6 +1,6 @@
 // Adding clauses to a table with a filter beside it. Each clause has a stamp: a word of the filter, and two bits of that word. The
 // filter has the stamps of all clauses of the table, so a clause whose stamp it lacks is new, and is added without a search. With
-// 2,047 clauses and 16,384 bits, few clauses have to be looked for all the same.
+// 2,047 clauses and 8,192 bits, few clauses have to be looked for all the same.
 ghost use mathlib.Core.Path.{_≡_};
 ghost use Prim.Native.Nat.{ℕ};
 ghost use mathlib.Core.Bool.{true};
@@ -17,6 +17,7 @@ use table::Counts;
 use table::Pending;
 use table::Pushed;
 use table::add_clause;
+use table::clause_at;
 use table::push_clause;
 use table::reduce_in;
 
@@ -35,16 +36,29 @@ fn hash_of(clause: &[u16]) -> u64
 
 // Puts the clause's stamp into the filter. Says whether it was there.
 fn stamp(filter: &mut [u64], clause: &[u16]) -> bool
-    requires { ⌜ length (now filter) ≡ 256 ⌝ }
+    requires { ⌜ length (now filter) ≡ 128 ⌝ }
     ensures { λ r. ⌜ r ≡ stamped (now (filter .entry)) (now (clause .entry)) ⌝ }
     ensures { λ _. ⌜ now (filter .exit) ≡ withStamp (now (filter .entry)) (now (clause .entry)) ⌝ }
 {
     let h = hash_of(clause);
-    let at = (h / 16777216 % 256) as usize;
+    let at = (h / 33554432 % 128) as usize;
     let old = filter[at];
-    let new = old | (1 << (h / 262144 % 64) | 1 << (h / 4096 % 64));
+    let new = old | (1 << (h / 524288 % 64) | 1 << (h / 8192 % 64));
     filter[at] = new;
     old == new
+}
+
+// Puts the stamps of all clauses of the table into the filter.
+pub fn cover(t: &[u16], c: Counts, filter: &mut [u64])
+    requires { ⌜ Held (now t) c ⌝ }
+    requires { ⌜ length (now filter) ≡ 128 ⌝ }
+    ensures { λ _. ⌜ Covers (now (t .entry)) c (now (filter .exit)) ⌝ }
+{
+    let mut i = 0;
+    while i < c.clauses {
+        stamp(filter, clause_at(t, c, i));
+        i += 1;
+    }
 }
 
 // The clause after the others, unless an equal one is there.

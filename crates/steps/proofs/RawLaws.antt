@@ -25,7 +25,7 @@ use Rattle.steps.specs.declared.Turn.{Turn}
 use Rattle.meaning.proofs.Basics.{and-i}
 use Rattle.meaning.proofs.Parts.{room-of}
 use Rattle.rules.proofs.Good.{good-drop}
-use Rattle.table.proofs.HoldLaws.{prefix-is, count-clauses}
+use Rattle.table.proofs.HoldLaws.{prefix-is}
 use Rattle.permits.proofs.PlaceLaws.{good-entries}
 use Rattle.steps.proofs.BuildLaws.{built-of, built-there, built-done, Going, going-next, going-full, going-end}
 
@@ -40,10 +40,6 @@ module _ {ψ : Formula} {t ranks : List ℕ} {d : Counts} (h : Holds ψ t d) (r 
   -- the same prefix in another table
   pub ready-as : {χ : Formula} {t′ : List ℕ} {e : Counts} → Holds χ t′ e → χ .prefix ≡ ψ .prefix → Ready (take (e .variables) t′) ranks
   ready-as {χ} {t′} {e} k q = subst (λ (p : List ℕ). Ready p ranks) (prefix-is h ∙ sym q ∙ sym (prefix-is k)) r
-
--- a formula without clauses
-pub no-clause : {ψ : Formula} {t : List ℕ} {d : Counts} → Holds ψ t d → ψ .clauses ≡ [] → d .clauses ≡ 0
-no-clause h e = count-clauses h ∙ ap length e
 
 -- One clause ------------------------------------------------------------------------------------------------------
 module _ (w : Which) (u : Turn) {ψ : Formula} {t : List ℕ} {d : Counts} (h : Holds ψ t d) (i : ℕ) (c : List ℕ) (b : Bool) (is : b ≡ taken w (take (d .variables) t) i c) where

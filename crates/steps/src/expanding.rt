@@ -6,7 +6,6 @@ ghost use lib.ListN.{length, take};
 ghost use Rattle.meaning.specs.Formula.{Formula};
 ghost use Rattle.table.specs.Table.{Holds, Held};
 ghost use Rattle.table.specs.Answer.{Built};
-ghost use Rattle.filter.specs.Filter.{Covers};
 ghost use Rattle.rules.specs.Entry.{expand};
 ghost use Rattle.rules.specs.Step.{permitted, resultOf};
 ghost use Rattle.steps.specs.Given.{Given, Begun};
@@ -35,13 +34,11 @@ fn add_halves(
     n: u16,
     scratch: &mut [u16],
     ranks: &[u16],
-    filter: &mut [u64],
 ) -> Pushed
     requires { ⌜ Held (now source) c ⌝ }
     requires { ⌜ Held (now target) d ⌝ }
     requires { ⌜ Ready (take (d .variables) (now target)) (now ranks) ⌝ }
     requires { ⌜ (length (now scratch) ≡ 1023) × (v ≤ 1023) ⌝ }
-    requires { ⌜ Covers (now target) d (now filter) ⌝ }
     ensures { λ r. ⌜ ((φ ψ : Formula) → Holds φ (now (source .entry)) c → Holds ψ (now (target .entry)) d → Built (withRaws ψ (halvesBy v s n (ψ .prefix) (φ .clauses))) (d .second) r (now (target .exit))) ⌝ }
 {
     let plain = 2 * v;
@@ -55,7 +52,6 @@ fn add_halves(
         Turn::Drop(plain),
         scratch,
         ranks,
-        filter,
     ) {
         Pushed::Done(e) => {
             add_all(
@@ -67,14 +63,13 @@ fn add_halves(
                 Turn::Copy(negated, s, n),
                 scratch,
                 ranks,
-                filter,
             )
         }
         Pushed::Full => Pushed::Full,
     }
 }
 
-// The clauses that do not reach behind place s, then the others twice. The target has no clause yet; one filter serves for all.
+// The clauses that do not reach behind place s, then the others twice.
 fn add_expanded(
     source: &[u16],
     c: Counts,
@@ -89,10 +84,9 @@ fn add_expanded(
     requires { ⌜ Held (now source) c ⌝ }
     requires { ⌜ Held (now target) d ⌝ }
     requires { ⌜ Ready (take (d .variables) (now target)) (now ranks) ⌝ }
-    requires { ⌜ (length (now scratch) ≡ 1023) × (v ≤ 1023) × (d .clauses ≡ 0) ⌝ }
+    requires { ⌜ (length (now scratch) ≡ 1023) × (v ≤ 1023) ⌝ }
     ensures { λ r. ⌜ ((φ ψ : Formula) → Holds φ (now (source .entry)) c → Holds ψ (now (target .entry)) d → Built (withRaws ψ (expandedBy v s n (ψ .prefix) (φ .clauses))) (d .second) r (now (target .exit))) ⌝ }
 {
-    let mut filter = [0u64; 256];
     match add_all(
         source,
         c,
@@ -102,9 +96,8 @@ fn add_expanded(
         Turn::Same,
         scratch,
         ranks,
-        &mut filter,
     ) {
-        Pushed::Done(e) => add_halves(source, c, target, e, v, s, n, scratch, ranks, &mut filter),
+        Pushed::Done(e) => add_halves(source, c, target, e, v, s, n, scratch, ranks),
         Pushed::Full => Pushed::Full,
     }
 }

@@ -17,6 +17,7 @@ use crate::prefixes::copy_prefix;
 use crate::recipes::feed;
 use crate::recipes::is_taken;
 use filter::close_filtered;
+use filter::cover;
 use table::Counts;
 use table::Pending;
 use table::Pushed;
@@ -58,8 +59,8 @@ fn add_one(
     Pushed::Done(d)
 }
 
-// What becomes of all clauses of the source.
-pub fn add_all(
+// What becomes of all clauses of the source. The filter covers the target.
+fn add_each(
     source: &[u16],
     c: Counts,
     target: &mut [u16],
@@ -104,6 +105,38 @@ pub fn add_all(
     Pushed::Done(e)
 }
 
+// What becomes of all clauses of the source. The filter is made here, so that it is on the stack once only.
+pub fn add_all(
+    source: &[u16],
+    c: Counts,
+    target: &mut [u16],
+    d: Counts,
+    which: Which,
+    turn: Turn,
+    scratch: &mut [u16],
+    ranks: &[u16],
+) -> Pushed
+    requires { ⌜ Held (now source) c ⌝ }
+    requires { ⌜ Held (now target) d ⌝ }
+    requires { ⌜ Ready (take (d .variables) (now target)) (now ranks) ⌝ }
+    requires { ⌜ length (now scratch) ≡ 1023 ⌝ }
+    ensures { λ r. ⌜ ((φ ψ : Formula) → Holds φ (now (source .entry)) c → Holds ψ (now (target .entry)) d → Built (withRaws ψ (rawsBy which turn (ψ .prefix) 0 (φ .clauses))) (d .second) r (now (target .exit))) ⌝ }
+{
+    let mut filter = [0u64; 128];
+    cover(target, d, &mut filter);
+    add_each(
+        source,
+        c,
+        target,
+        d,
+        which,
+        turn,
+        scratch,
+        ranks,
+        &mut filter,
+    )
+}
+
 // The source's formula remade by a recipe, in a target that is all zero. Variable v is dropped; 0 is none.
 pub fn rebuild(
     source: &[u16],
@@ -125,16 +158,5 @@ pub fn rebuild(
     let d = copy_prefix(source, c, v, target, !c.second);
     let n = d.variables;
     rank_prefix(&target[..n], ranks);
-    let mut filter = [0u64; 256];
-    add_all(
-        source,
-        c,
-        target,
-        d,
-        which,
-        turn,
-        scratch,
-        ranks,
-        &mut filter,
-    )
+    add_all(source, c, target, d, which, turn, scratch, ranks)
 }

@@ -37,7 +37,7 @@ returns : tie.Need-returns
 unfolding wordOf bitsOf marked withStamp stamped
 returns c =
     let h = c .before .hash-of .result in
-    rw (bit-is (h / 262144 % 64) (omega arith), bit-is (h / 4096 % 64) (omega arith), c .before .hash-of .ensures) (refl, refl)
+    rw (bit-is (h / 524288 % 64) (omega arith), bit-is (h / 8192 % 64) (omega arith), c .before .hash-of .ensures) (refl, refl)
 
 pub stamp-spec : {M : Type 1} → statement M
 stamp-spec =

@@ -1,10 +1,7 @@
 -- One recipe, then the two halves.
 -- Assumes nothing.
-use Prim.Native.Nat.{ℕ}
 use mathlib.Core.Path.{_∙_}
-use lib.ListN.{length-replicate}
 use Rattle.table.proofs.HoldLaws.{held}
-use Rattle.filter.proofs.FilterLaws.{covers-none}
 use Rattle.steps.proofs.BuildLaws.{built-done}
 use Rattle.steps.proofs.RawLaws.{ready-after}
 use Rattle.steps.proofs.ExpandLaws.{expanded-full, expanded-done}
@@ -12,30 +9,23 @@ use borrow.Author.Needs.{needs}
 use Rattle.steps.proofs.expanding.add_expanded.Statement.{statement}
 use Rattle.steps.proofs.expanding.add_expanded.Tie as tie
 
-slice-aggregate-add-all : tie.Need-slice-aggregate-add-all
-slice-aggregate-add-all c = search needs
-
 add-all-requires : tie.Need-add-all-requires
 add-all-requires c κs =
-    let s = c .before .before .before .before .before .before .before in
-    let new = covers-none _ _ _ (s .pre .1 .1 .1 .2) (length-replicate {A = ℕ} 256 0) in
-    (s .pre .0, (s .pre .1 .0, (s .pre .1 .1 .0, (s .pre .1 .1 .1 .0, new))))
+    let s = c .before .before .before .before .before .before in
+    (s .pre .0, (s .pre .1 .0, (s .pre .1 .1 .0, s .pre .1 .1 .1 .0)))
 
 enum-known-e : tie.Need-enum-known-e
 enum-known-e c = search needs
 
-slice-aggregate-add-halves : tie.Need-slice-aggregate-add-halves
-slice-aggregate-add-halves c = search needs
-
 add-halves-requires : tie.Need-add-halves-requires
 add-halves-requires c κs =
-    let e = c .before .before .before .before in
-    let k = e .before .before .before .before .before .before .before in
-    let s = k .before .before .before .before .before .before .before .before in
-    let b = k .add-all .ensures .0 (s .pre .0 .formula) (s .pre .1 .0 .formula) (s .pre .0 .holds) (s .pre .1 .0 .holds) in
+    let e = c .before .before .before in
+    let k = e .before .before .before .before .before .before in
+    let s = k .before .before .before .before .before .before .before in
+    let b = k .add-all .ensures (s .pre .0 .formula) (s .pre .1 .0 .formula) (s .pre .0 .holds) (s .pre .1 .0 .holds) in
     let h = built-done _ _ _ _ b _ (e .e .given .1) in
     let ready = ready-after (s .pre .1 .0 .holds) (s .pre .1 .1 .0) _ _ _ _ b _ (e .e .given .1) in
-    (s .pre .0, (held h, (ready, ((k .add-all .kept .1 .1 .1 .1 .1 .1 .0 ∙ s .pre .1 .1 .1 .0, s .pre .1 .1 .1 .1), k .add-all .ensures .1 _ (e .e .given .1)))))
+    (s .pre .0, (held h, (ready, (k .add-all .kept .1 .1 .1 .1 .1 .1 .0 ∙ s .pre .1 .1 .1 .0, s .pre .1 .1 .1 .1))))
 
 enum-told : tie.Need-enum-told
 enum-told c = search needs
@@ -48,10 +38,10 @@ same-length-2 c = search needs
 
 returns : tie.Need-returns
 returns c =
-    let a = c .before .before .before .before .before in
-    let e = a .before .before .before .before .before in
-    let k = e .before .before .before .before .before .before .before in
-    λ φ ψ h i. let b = k .add-all .ensures .0 φ ψ h i in
+    let a = c .before .before .before .before in
+    let e = a .before .before .before .before in
+    let k = e .before .before .before .before .before .before in
+    λ φ ψ h i. let b = k .add-all .ensures φ ψ h i in
     expanded-done _ _ _ ψ (φ .clauses) _ _ _ b _ (e .e .given .1) _ _ (a .add-halves .ensures φ _ h (built-done _ _ _ _ b _ (e .e .given .1)))
 
 same-length-3 : tie.Need-same-length-3
@@ -62,17 +52,15 @@ same-length-4 c = search needs
 
 returns-2 : tie.Need-returns-2
 returns-2 c =
-    let k = c .before .before .before .before .before .before .before in
-    λ φ ψ h i. expanded-full _ _ _ ψ (φ .clauses) _ _ _ (k .add-all .ensures .0 φ ψ h i) (c .enum-told .given .1) _
+    let k = c .before .before .before .before .before .before in
+    λ φ ψ h i. expanded-full _ _ _ ψ (φ .clauses) _ _ _ (k .add-all .ensures φ ψ h i) (c .enum-told .given .1) _
 
 pub add-expanded-spec : {M : Type 1} → statement M
 add-expanded-spec =
     tie.close
     (tie.spec
-    slice-aggregate-add-all
     add-all-requires
     enum-known-e
-    slice-aggregate-add-halves
     add-halves-requires
     enum-told
     same-length

@@ -20,21 +20,21 @@ add-negated c = search needs
 
 add-all-requires : tie.Need-add-all-requires
 add-all-requires c κs =
-    let s = c .before .before .before .before .before .before .before .before in
-    (s .pre .0, (s .pre .1 .0, (s .pre .1 .1 .0, (s .pre .1 .1 .1 .0 .0, s .pre .1 .1 .1 .1))))
+    let s = c .before .before .before .before .before .before in
+    (s .pre .0, (s .pre .1 .0, (s .pre .1 .1 .0, s .pre .1 .1 .1 .0)))
 
 enum-known-e : tie.Need-enum-known-e
 enum-known-e c = search needs
 
 add-all-requires-2 : tie.Need-add-all-requires-2
 add-all-requires-2 c κs =
-    let e = c .before .before .before .before in
-    let k = e .before .before .before .before .before .before .before .before in
-    let s = k .before .before .before .before .before .before .before .before .before in
-    let b = k .add-all .ensures .0 (s .pre .0 .formula) (s .pre .1 .0 .formula) (s .pre .0 .holds) (s .pre .1 .0 .holds) in
+    let e = c .before .before .before in
+    let k = e .before .before .before .before .before .before in
+    let s = k .before .before .before .before .before .before .before in
+    let b = k .add-all .ensures (s .pre .0 .formula) (s .pre .1 .0 .formula) (s .pre .0 .holds) (s .pre .1 .0 .holds) in
     let h = built-done _ _ _ _ b _ (e .e .given .1) in
     let ready = ready-after (s .pre .1 .0 .holds) (s .pre .1 .1 .0) _ _ _ _ b _ (e .e .given .1) in
-    (s .pre .0, (held h, (ready, (k .add-all .kept .1 .1 .1 .1 .1 .1 .0 ∙ s .pre .1 .1 .1 .0 .0, k .add-all .ensures .1 _ (e .e .given .1)))))
+    (s .pre .0, (held h, (ready, k .add-all .kept .1 .1 .1 .1 .1 .1 .0 ∙ s .pre .1 .1 .1 .0)))
 
 enum-told : tie.Need-enum-told
 enum-told c = search needs
@@ -45,30 +45,24 @@ same-length c = search needs
 same-length-2 : tie.Need-same-length-2
 same-length-2 c = search needs
 
-same-length-3 : tie.Need-same-length-3
-same-length-3 c = search needs
-
 returns : tie.Need-returns
 returns c =
-    let a = c .before .before .before .before .before .before in
-    let e = a .before .before .before .before .before in
-    let k = e .before .before .before .before .before .before .before .before in
-    λ φ ψ h i. let b = k .add-all .ensures .0 φ ψ h i in
-    halves-done _ _ _ ψ (φ .clauses) _ _ _ b _ (e .e .given .1) _ _ (a .add-all2 .ensures .0 φ _ h (built-done _ _ _ _ b _ (e .e .given .1)))
+    let a = c .before .before .before .before in
+    let e = a .before .before .before .before in
+    let k = e .before .before .before .before .before .before in
+    λ φ ψ h i. let b = k .add-all .ensures φ ψ h i in
+    halves-done _ _ _ ψ (φ .clauses) _ _ _ b _ (e .e .given .1) _ _ (a .add-all2 .ensures φ _ h (built-done _ _ _ _ b _ (e .e .given .1)))
+
+same-length-3 : tie.Need-same-length-3
+same-length-3 c = search needs
 
 same-length-4 : tie.Need-same-length-4
 same-length-4 c = search needs
 
-same-length-5 : tie.Need-same-length-5
-same-length-5 c = search needs
-
-same-length-6 : tie.Need-same-length-6
-same-length-6 c = search needs
-
 returns-2 : tie.Need-returns-2
 returns-2 c =
-    let k = c .before .before .before .before .before .before .before .before in
-    λ φ ψ h i. halves-full _ _ _ ψ (φ .clauses) _ _ _ (k .add-all .ensures .0 φ ψ h i) (c .enum-told .given .1) _
+    let k = c .before .before .before .before .before .before in
+    λ φ ψ h i. halves-full _ _ _ ψ (φ .clauses) _ _ _ (k .add-all .ensures φ ψ h i) (c .enum-told .given .1) _
 
 pub add-halves-spec : {M : Type 1} → statement M
 add-halves-spec =
@@ -83,9 +77,7 @@ add-halves-spec =
     enum-told
     same-length
     same-length-2
-    same-length-3
     returns
+    same-length-3
     same-length-4
-    same-length-5
-    same-length-6
     returns-2)

@@ -1,7 +1,7 @@
 -- The prefix with the copies, its ranks, then the clauses.
 -- Assumes nothing.
 use Prim.Native.Nat.{_≤_}
-use mathlib.Core.Path.{_≡_, refl, sym}
+use mathlib.Core.Path.{_≡_, sym}
 use native.Mathlib.Omega.{arith}
 use lib.ListN.{take}
 use lib.Seq.{length-take-le}
@@ -13,9 +13,8 @@ use Rattle.permits.specs.Places.{placeOf}
 use Rattle.steps.specs.Given.{Given}
 use Rattle.steps.specs.Raws.{bare}
 use Rattle.steps.specs.Recipe.{Ready}
-use Rattle.steps.specs.Copies.{withEntries}
 use Rattle.steps.proofs.BuildLaws.{built-done}
-use Rattle.steps.proofs.RawLaws.{no-clause, ranked-ready}
+use Rattle.steps.proofs.RawLaws.{ranked-ready}
 use Rattle.steps.proofs.GivenLaws.{begun-held, begun-ranks, given-ready}
 use Rattle.steps.proofs.ExpandLaws.{front, expand-few, expand-good, expand-full, expand-done, expand-never}
 use borrow.Author.Needs.{needs}
@@ -152,9 +151,7 @@ add-expanded-requires c κs =
     let r = c .before .before .before .before .before .before in
     let e = done r in
     let small = counting (copying (pushing e)) .before .before .before .before .if1 .left in
-    let b = first e .pre in
-    let none = no-clause (there e (b .formula) (b .given)) (unfold withEntries bare in refl) in
-    (begun-held b, (there-held e, (ready r, (b .room, omega arith, none))))
+    (begun-held (first e .pre), (there-held e, (ready r, (first e .pre .room, omega arith))))
 
 enum-told : tie.Need-enum-told
 enum-told c = search needs

@@ -1,16 +1,13 @@
 -- The prefix is copied and ranked, then the clauses follow.
 -- Assumes nothing.
-use Prim.Native.Nat.{ℕ}
-use mathlib.Core.Path.{refl, sym, _∙_}
+use mathlib.Core.Path.{sym, _∙_}
 use native.Mathlib.Omega.{arith}
-use lib.ListN.{take, length-replicate}
+use lib.ListN.{take}
 use lib.Seq.{length-take-le}
 use Rattle.table.specs.Table.{Held}
 use Rattle.table.proofs.HoldLaws.{bounds, held}
-use Rattle.filter.proofs.FilterLaws.{covers-none}
-use Rattle.steps.specs.Raws.{bare}
 use Rattle.steps.specs.Recipe.{Ready}
-use Rattle.steps.proofs.RawLaws.{no-clause, ranked-ready, copied-good, remade-built, ready-after}
+use Rattle.steps.proofs.RawLaws.{ranked-ready, copied-good, remade-built, ready-after}
 use borrow.Author.Needs.{needs}
 use Rattle.steps.proofs.rebuilding.rebuild.Statement.{statement}
 use Rattle.steps.proofs.rebuilding.rebuild.Tie as tie
@@ -39,16 +36,8 @@ slice-aggregate-rank-prefix c = let b = bounds (copied (c .before .before .befor
 rank-prefix-requires : tie.Need-rank-prefix-requires
 rank-prefix-requires c κs = let k = c .before .before .before .before in let b = bounds (copied k) in (k .before .before .before .before .before .before .before .pre .1 .1 .1 .1, omega (arith, length-take-le (k .copy-prefix .result .variables) (k .copy-prefix .last .1 .1 .1 .0) (omega arith)))
 
-slice-aggregate-add-all : tie.Need-slice-aggregate-add-all
-slice-aggregate-add-all c = search needs
-
 add-all-requires : tie.Need-add-all-requires
-add-all-requires c κs =
-    let r = c .before .before .before .before .before .before in
-    let k = r .before .before .before .before .before in
-    let s = k .before .before .before .before .before .before .before in
-    let none = no-clause (k .copy-prefix .ensures .0 (s .pre .0 .formula) (s .pre .0 .holds)) (unfold bare in refl) in
-    (s .pre .0, (copied k, (ready r, (s .pre .1 .1 .1 .0, covers-none _ _ _ none (length-replicate {A = ℕ} 256 0)))))
+add-all-requires c κs = let r = c .before .before .before .before .before in let k = r .before .before .before .before .before in let s = k .before .before .before .before .before .before .before in (s .pre .0, (copied k, (ready r, s .pre .1 .1 .1 .0)))
 
 same-length : tie.Need-same-length
 same-length c = search needs
@@ -60,8 +49,8 @@ same-length-3 : tie.Need-same-length-3
 same-length-3 c = search needs
 
 returns : tie.Need-returns
-returns c = let a = c .before .before .before .before .before in let r = a .before .before .before .before .before .before .before in let k = r .before .before .before .before .before in let s = k .before .before .before .before .before .before .before in
-    (λ φ h. remade-built _ _ _ φ _ _ _ _ (a .add-all .ensures .0 φ _ h (k .copy-prefix .ensures .0 φ h)) (k .copy-prefix .ensures .1), λ d e. ready-after (k .copy-prefix .ensures .0 (s .pre .0 .formula) (s .pre .0 .holds)) (ready r) _ _ _ _ (a .add-all .ensures .0 (s .pre .0 .formula) _ (s .pre .0 .holds) (k .copy-prefix .ensures .0 (s .pre .0 .formula) (s .pre .0 .holds))) d e)
+returns c = let a = c .before .before .before .before in let r = a .before .before .before .before .before .before in let k = r .before .before .before .before .before in let s = k .before .before .before .before .before .before .before in
+    (λ φ h. remade-built _ _ _ φ _ _ _ _ (a .add-all .ensures φ _ h (k .copy-prefix .ensures .0 φ h)) (k .copy-prefix .ensures .1), λ d e. ready-after (k .copy-prefix .ensures .0 (s .pre .0 .formula) (s .pre .0 .holds)) (ready r) _ _ _ _ (a .add-all .ensures (s .pre .0 .formula) _ (s .pre .0 .holds) (k .copy-prefix .ensures .0 (s .pre .0 .formula) (s .pre .0 .holds))) d e)
 
 pub rebuild-spec : {M : Type 1} → statement M
 rebuild-spec =
@@ -71,7 +60,6 @@ rebuild-spec =
     slice-reshare-prefix-rank-prefix
     slice-aggregate-rank-prefix
     rank-prefix-requires
-    slice-aggregate-add-all
     add-all-requires
     same-length
     same-length-2
