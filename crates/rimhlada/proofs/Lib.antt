@@ -13,3 +13,5 @@ pub mod LentLaws
 pub mod StepLaws
 pub mod RunLaws
 pub mod ReplayLaws
+pub mod ExplainLaws
+pub mod Explained

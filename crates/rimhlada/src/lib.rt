@@ -1,11 +1,15 @@
 // The face: the public operations and nothing else.
 mod asking;
+mod explains;
 mod replays;
 mod runs;
 mod stepping;
 
 pub use asking::literals;
 pub use asking::literals_number;
+pub use explains::ReasonAnswer;
+pub use explains::Reasoned;
+pub use explains::reason;
 pub use reader::ReadAnswer;
 pub use reader::Reading;
 pub use reader::read;
