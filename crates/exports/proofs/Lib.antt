@@ -1,2 +1,3 @@
 pub mod RecordLaws
 pub mod CallLaws
+pub mod Coincide

@@ -79,8 +79,8 @@ pub extern "C" fn rimhlada_literals_number(first: &[u16], second: &[u16], counts
     if 1 < counts[3] {
         return side_number(first, second);
     }
-    let c = counts_in(counts);
-    rimhlada::literals_number(first, second, c)
+    let asked = counts_in(counts);
+    rimhlada::literals_number(first, second, asked)
 }
 
 // One step, by its log entry.
