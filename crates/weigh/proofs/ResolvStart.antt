@@ -4,7 +4,7 @@ use Prim.Native.Nat.{ℕ, _+_, _-_, _*_, _<_}
 use mathlib.Core.Path.{_≡_, sym, ap, _∙_}
 use mathlib.Core.Bool.{Bool, true, false, _&&_, not}
 use mathlib.Core.List.{List, _∷_}
-use lib.ListN.{length, length-append}
+use lib.ListN.{length, drop, length-append}
 use lib.Dec.{ltb, leb}
 use borrow.Author.Tests.{ltb-true, ltb-false}
 use native.Mathlib.Omega.{arith}
@@ -12,12 +12,12 @@ use Rattle.meaning.specs.Lists.{allOf}
 use Rattle.meaning.specs.Formula.{Formula, var, isVar, mentions, dropVar, plain, negated}
 use Rattle.meaning.specs.Tidy.{buildOn}
 use Rattle.meaning.specs.WellFormed.{goodPrefix, wellFormed, fits, literals}
-use Rattle.rules.specs.Eliminate.{withLit, resolvePermitted}
+use Rattle.rules.specs.Eliminate.{withLit, fromUniversal, resolvePermitted}
 use Rattle.rules.specs.Entry.{resolve}
 use Rattle.rules.specs.Step.{permitted, resultOf}
-use Rattle.permits.specs.Places.{sideWithin}
+use Rattle.permits.specs.Places.{placeOf, sideWithin}
 use Rattle.permits.proofs.AndLaws.{and-second, and-none}
-use Rattle.permits.proofs.PlaceLaws.{entries-of}
+use Rattle.permits.proofs.PlaceLaws.{entries-of, place-right}
 use Rattle.permits.proofs.SideLaws.{resolve-large}
 use Rattle.index.specs.Study.{Studied}
 use Rattle.table.specs.Table.{countsOf}
@@ -25,7 +25,7 @@ use Rattle.table.specs.declared.Counts.{Counts}
 use Rattle.weigh.specs.Weights.{weighed, weighedStep}
 use Rattle.weigh.specs.declared.Weighed.{Weighed}
 use Rattle.weigh.specs.declared.Weighed.the-variants.{Over}
-use Rattle.weigh.specs.Resolving.{restOf, stayOf, pairs, resolvedTo, Filed, Bounded}
+use Rattle.weigh.specs.Resolving.{restOf, stayOf, pairs, resolvedTo, Filed, Bounded, FirstUniversal}
 use Rattle.meaning.proofs.Basics.{by-cases, clash}
 use Rattle.meaning.proofs.Lists.{all-keep-le}
 use Rattle.meaning.proofs.Parts.{good-of, room-of}
@@ -45,6 +45,16 @@ module _ (φ : Formula) (a n : ℕ) (p : Bool) where
   pub sides-none : p ≡ sideWithin φ (2 * a) n → p ≡ false → false ≡ (sideWithin φ (plain a) n && sideWithin φ (negated a) n)
   unfolding plain negated
   sides-none e t = and-none (sideWithin φ (2 * a) n) (sideWithin φ (2 * a + 1) n) p e t
+
+-- the first universal right of a variable, by its place
+pub first-there : (φ : Formula) (a n : ℕ) → FirstUniversal φ a n → mentions (φ .prefix) a ≡ true
+    → fromUniversal (drop (placeOf (φ .prefix) a) (φ .prefix)) ≡ drop n (φ .prefix)
+first-there φ a n h m = ap fromUniversal (place-right (φ .prefix) a m) ∙ h m
+
+pub first-at : (φ : Formula) (a m n : ℕ) (p : List ℕ) → p ≡ φ .prefix → m ≡ placeOf (φ .prefix) a → fromUniversal (drop m p) ≡ drop n p
+    → FirstUniversal φ a n
+first-at φ a m n p e at f =
+    λ k. ap fromUniversal (sym (place-right (φ .prefix) a k)) ∙ rw (← at, ← e) f
 
 -- The start --------------------------------------------------------------------------------------------------------------
 drop-length : (p : List ℕ) (v : ℕ) → goodPrefix p ≡ true → mentions p v ≡ true → length p ≡ length (dropVar v p) + 1

@@ -2,15 +2,15 @@
 -- Assumes nothing.
 use mathlib.Core.Path.{_≡_}
 use Prim.Native.Nat.{ℕ, _+_, _*_, _/_, _%_, _≤_, _<_}
-use mathlib.Core.Bool.{Bool, false, _||_, cond}
+use mathlib.Core.Bool.{Bool, true, false, _||_, cond}
 use mathlib.Core.List.{List, [], _∷_, _++_}
 use lib.Dec.{eqb, ltb}
 use lib.ListN.{length, getD, take, drop}
 use Rattle.meaning.specs.Lists.{allOf, anyOf, has, same, without}
-use Rattle.meaning.specs.Formula.{Formula, var, plain, negated, dropVar, universal}
+use Rattle.meaning.specs.Formula.{Formula, var, plain, negated, mentions, dropVar, universal, rightOf}
 use Rattle.meaning.specs.WellFormed.{weight}
 use Rattle.meaning.specs.Tidy.{Tidied, dropped, kept, tidy, buildOn}
-use Rattle.rules.specs.Eliminate.{withLit, withoutVar, resolvents}
+use Rattle.rules.specs.Eliminate.{withLit, withoutVar, resolvents, fromUniversal}
 use Rattle.table.specs.Table.{Holds, countsOf}
 use Rattle.table.specs.declared.Counts.{Counts}
 use Rattle.table.specs.declared.Pending.{Pending}
@@ -45,6 +45,10 @@ rarestOf cs l (k ∷ c) = rarestOf cs (rarer cs l k) c
 -- What a scratch and a record hold: a tidied clause, dropped, or in the first places -----------------------------------
 unfoldable pub tidiedIn : List ℕ → Pending → Tidied
 tidiedIn s p = cond (p .both) dropped (kept (take (p .size) s))
+
+-- n entries stand left of the first universal right of a; where there is none, n are all or more
+abbrev pub FirstUniversal : Formula → ℕ → ℕ → Type 0
+FirstUniversal φ a n = mentions (φ .prefix) a ≡ true → fromUniversal (rightOf a (φ .prefix)) ≡ drop n (φ .prefix)
 
 -- The pairs ----------------------------------------------------------------------------------------------------------
 -- "by positive clause, then negative": the clauses of pair k

@@ -12,7 +12,7 @@ ghost use Rattle.rules.specs.Step.{resultOf};
 ghost use Rattle.table.specs.Table.{countsOf};
 ghost use Rattle.index.specs.Study.{Studied, Study};
 ghost use Rattle.weigh.specs.Weights.{weighed, weighedStep, Summable};
-ghost use Rattle.weigh.specs.Resolving.{Filed, File, resolvedTo, Bounded, CountedTo};
+ghost use Rattle.weigh.specs.Resolving.{Filed, File, resolvedTo, Bounded, CountedTo, FirstUniversal};
 use crate::Weighed;
 use crate::counts::weight_of;
 use crate::pairing::add_pair;
@@ -96,17 +96,24 @@ fn count_pairs(
     e
 }
 
-// Whether a is an existential that may be resolved: the clauses with it, by the index, have no variable behind the first universal.
-pub fn may_resolve(t: &[u16], c: Counts, ranks: &[u16], index: &[u16], a: usize) -> bool
+// Whether a is an existential that may be resolved, where n entries stand left of the first universal to its right: the clauses with it, by
+// the index, have no variable behind these.
+fn may_resolve_within(
+    t: &[u16],
+    c: Counts,
+    ranks: &[u16],
+    index: &[u16],
+    a: usize,
+    n: usize,
+) -> bool
     requires { ⌜ Study (now t) c (now ranks) (now index) ⌝ }
+    requires { ⌜ ((φ : Formula) → Studied φ (now t) c (now ranks) (now index) → FirstUniversal φ a n) ⌝ }
     ensures { λ r. ⌜ ((φ : Formula) → Studied φ (now (t .entry)) c (now (ranks .entry)) (now (index .entry)) → r ≡ resolvePermitted φ a) ⌝ }
 {
     if Counts::VARIABLES < a {
         return false;
     }
     if is_existential(ranks, a) {
-        let v = c.variables;
-        let n = first_universal(&t[..v], place_of(ranks, a));
         let literal = 2 * a as u16;
         if side_near(t, c, ranks, index, literal, n) {
             return side_near(t, c, ranks, index, literal + 1, n);
@@ -114,6 +121,16 @@ pub fn may_resolve(t: &[u16], c: Counts, ranks: &[u16], index: &[u16], a: usize)
         return false;
     }
     false
+}
+
+// Whether a is an existential that may be resolved.
+pub fn may_resolve(t: &[u16], c: Counts, ranks: &[u16], index: &[u16], a: usize) -> bool
+    requires { ⌜ Study (now t) c (now ranks) (now index) ⌝ }
+    ensures { λ r. ⌜ ((φ : Formula) → Studied φ (now (t .entry)) c (now (ranks .entry)) (now (index .entry)) → r ≡ resolvePermitted φ a) ⌝ }
+{
+    let v = c.variables;
+    let n = first_universal(&t[..v], place_of(ranks, a));
+    may_resolve_within(t, c, ranks, index, a, n)
 }
 
 // The counts of the whole result of resolving a, whether it fits or not, where that is permitted.
@@ -136,7 +153,7 @@ pub fn resolved_counts(
     count_pairs(t, c, ranks, index, scratch, again, a, d, UNREACHED)
 }
 
-// What the result of resolving a would weigh, against a bound.
+// What the result of resolving a would weigh, against a bound. The caller, who goes from variable to variable, knows the first universal.
 pub fn weigh_resolve(
     t: &[u16],
     c: Counts,
@@ -145,13 +162,15 @@ pub fn weigh_resolve(
     scratch: &mut [u16],
     again: &mut [u16],
     a: usize,
+    n: usize,
     below: usize,
 ) -> Weighed
     requires { ⌜ Study (now t) c (now ranks) (now index) ⌝ }
     requires { ⌜ (length (now scratch) ≡ 1023) × (length (now again) ≡ 1023) ⌝ }
+    requires { ⌜ ((φ : Formula) → Studied φ (now t) c (now ranks) (now index) → FirstUniversal φ a n) ⌝ }
     ensures { λ r. ⌜ ((φ : Formula) → Studied φ (now (t .entry)) c (now (ranks .entry)) (now (index .entry)) → r ≡ weighedStep below φ resolve a) ⌝ }
 {
-    if may_resolve(t, c, ranks, index, a) {
+    if may_resolve_within(t, c, ranks, index, a, n) {
         let d = counts_left(t, c, index, a);
         let e = count_pairs(t, c, ranks, index, scratch, again, a, d, below);
         return weigh_counts(e, below);

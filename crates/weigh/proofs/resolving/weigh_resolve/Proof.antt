@@ -8,15 +8,15 @@ use borrow.Author.Needs.{needs}
 use Rattle.weigh.proofs.resolving.weigh_resolve.Statement.{statement}
 use Rattle.weigh.proofs.resolving.weigh_resolve.Tie as tie
 
-may-resolve-requires : tie.Need-may-resolve-requires
-may-resolve-requires c κs = search needs
+may-resolve-within-requires : tie.Need-may-resolve-within-requires
+may-resolve-within-requires c κs = search needs
 
 counts-left-requires : tie.Need-counts-left-requires
 counts-left-requires c κs =
     let m = c .before in
     let s = m .before .before .before .before .before .before in
     let g = s .pre .0 in
-    let ok = sym (m .may-resolve .ensures (g .formula) (g .studied)) ∙ c .if1 .taken in (
+    let ok = sym (m .may-resolve-within .ensures (g .formula) (g .studied)) ∙ c .if1 .taken in (
       file-of g,
       (permitted-small (g .studied) (s .args .a) ok, some-variables (filed-of (g .studied)) (s .args .a) (permitted-there (g .formula) (s .args .a) ok)),
     )
@@ -27,8 +27,8 @@ count-pairs-requires c κs =
     let m = l .before .before in
     let s = m .before .before .before .before .before .before in
     let g = s .pre .0 in
-    let ok = sym (m .may-resolve .ensures (g .formula) (g .studied)) ∙ l .before .if1 .taken in
-    (g, ((s .pre .1 .0, s .pre .1 .1, permitted-small (g .studied) (s .args .a) ok), l .counts-left .ensures .0))
+    let ok = sym (m .may-resolve-within .ensures (g .formula) (g .studied)) ∙ l .before .if1 .taken in
+    (g, ((s .pre .1 .0 .0, s .pre .1 .0 .1, permitted-small (g .studied) (s .args .a) ok), l .counts-left .ensures .0))
 
 weigh-counts-requires : tie.Need-weigh-counts-requires
 weigh-counts-requires c κs = c .before .before .before .before .count-pairs .ensures .0
@@ -45,19 +45,19 @@ returns c =
     let l = p .before .before .before in
     let m = l .before .before in
     let a = m .before .before .before .before .before .before .args .a in
-    λ φ g. let r = m .may-resolve .ensures φ g in let t = l .before .if1 .taken in
+    λ φ g. let r = m .may-resolve-within .ensures φ g in let t = l .before .if1 .taken in
     let n = p .count-pairs .ensures .1 φ g (l .counts-left .ensures .1 φ (filed-of g) (permitted-there φ a (sym r ∙ t))) in
     step-some _ φ a _ r t _
     (weighed-whole φ (g .well) a _ _ n _ (c .weigh-counts .ensures _ (n .counted) (rest-small φ (g .holds .fitting) a (n .some))))
 
 returns-2 : tie.Need-returns-2
-returns-2 c = λ φ g. step-none _ φ _ _ (c .before .may-resolve .ensures φ g) (c .if1 .left)
+returns-2 c = λ φ g. step-none _ φ _ _ (c .before .may-resolve-within .ensures φ g) (c .if1 .left)
 
 pub weigh-resolve-spec : {M : Type 1} → statement M
 weigh-resolve-spec =
     tie.close
     (tie.spec
-    may-resolve-requires
+    may-resolve-within-requires
     counts-left-requires
     count-pairs-requires
     weigh-counts-requires
