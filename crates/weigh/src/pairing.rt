@@ -12,7 +12,7 @@ ghost use Rattle.index.specs.Index.{Indexes, Indexed};
 ghost use Rattle.index.specs.Study.{Studied, Study};
 ghost use Rattle.weigh.specs.Resolving.{Filed, File, pairs, positiveAt, negativeAt, resolventAt, resolvedTo, tidiedIn, anyGives, rowGives, cameBefore, Bounded};
 use crate::resolvents::fits_in;
-use crate::resolvents::is_resolvent;
+use crate::resolvents::gives;
 use crate::resolvents::resolve_pair;
 use crate::sides::clause_with;
 use crate::sides::count_with;
@@ -92,7 +92,7 @@ fn any_gives(
     let literal = 2 * a as u16 + 1;
     let mut j = 0;
     while j < m {
-        if is_resolvent(
+        if gives(
             again,
             x,
             clause_with(t, c, index, literal, j),

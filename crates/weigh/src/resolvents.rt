@@ -131,7 +131,7 @@ pub fn fits_in(x: &[u16], out: u16, ranks: &[u16], clause: &[u16]) -> bool
 }
 
 // Whether the resolvent of x and y is the clause.
-pub fn is_resolvent(
+fn is_resolvent(
     scratch: &mut [u16],
     x: &[u16],
     y: &[u16],
@@ -150,6 +150,26 @@ pub fn is_resolvent(
         }
         let m = p.size;
         return equal(clause, &scratch[..m]);
+    }
+    false
+}
+
+// The same, where y mostly has a literal that the clause lacks.
+pub fn gives(
+    scratch: &mut [u16],
+    x: &[u16],
+    y: &[u16],
+    a: usize,
+    ranks: &[u16],
+    clause: &[u16],
+) -> bool
+    requires { ⌜ (length (now scratch) ≡ 1023) × (a < 1024) × (length (now ranks) ≡ 1024) ⌝ }
+    requires { ⌜ (allOf inRange (now x) ≡ true) × (allOf inRange (now y) ≡ true) ⌝ }
+    ensures { λ r. ⌜ ((q : List ℕ) → goodEntries q ≡ true → now (ranks .entry) ≡ ranksOf q → r ≡ becomes (now (clause .entry)) (tidy q (resolvent a (now (x .entry)) (now (y .entry))))) ⌝ }
+{
+    let out = 2 * a as u16 + 1;
+    if fits_in(y, out, ranks, clause) {
+        return is_resolvent(scratch, x, y, a, ranks, clause);
     }
     false
 }

@@ -7,7 +7,7 @@ use lib.ListN.{length, take, drop}
 use Rattle.meaning.specs.Lists.{anyOf}
 use Rattle.meaning.specs.Formula.{Formula, negated}
 use Rattle.meaning.specs.Tidy.{tidy}
-use Rattle.meaning.proofs.Parts.{good-of}
+use Rattle.permits.proofs.PlaceLaws.{entries-of}
 use Rattle.rules.specs.Eliminate.{withLit}
 use Rattle.index.specs.Study.{Studied}
 use Rattle.index.proofs.ReadLaws.{studied-indexes}
@@ -47,8 +47,8 @@ clause-with-requires c κs =
     let s = i .before .before .before .before .before .before .before .before in
     (file-of (s .pre .0), λ φ h. omega (arith, s .pre .1 .1 φ h, i .loop-test .taken))
 
-is-resolvent-requires : tie.Need-is-resolvent-requires Inv-loop μ-loop
-is-resolvent-requires c κs =
+gives-requires : tie.Need-gives-requires Inv-loop μ-loop
+gives-requires c κs =
     let l = c .before .before .before in
     let s = l .before .before .before .before .before .before .before in
     let g = s .pre .0 in
@@ -58,7 +58,7 @@ is-resolvent-requires c κs =
     )
 
 same-length : tie.Need-same-length Inv-loop μ-loop
-same-length c = let g = c .before .before .before in g .is-resolvent .kept .0 ∙ g .before .before .before .before .loop .inv .1
+same-length c = let g = c .before .before .before in g .gives .kept .0 ∙ g .before .before .before .before .loop .inv .1
 
 returns : tie.Need-returns Inv-loop μ-loop
 returns c =
@@ -67,7 +67,7 @@ returns c =
     let s = l .before .before .before .before .before .before .before in
     λ φ d. partner-found φ (s .args .a) _ _ (s .pre .1 .1 φ (studied-indexes d)) _ (l .loop .j) (l .loop .inv .2 φ d)
     (g .before .before .before .loop-test .taken) _ (g .before .clause-with .ensures φ (filed-of d)) _
-    (g .is-resolvent .ensures (φ .prefix) (good-of φ (d .well)) (d .ranked)) (c .if1 .taken)
+    (g .gives .ensures (φ .prefix) (entries-of φ (d .well) (d .holds .fitting)) (d .ranked)) (c .if1 .taken)
 
 add-j : tie.Need-add-j Inv-loop μ-loop
 add-j c = search needs
@@ -81,10 +81,10 @@ loop-again c =
     let l = g .before .before .before .before in
     let s = l .before .before .before .before .before .before .before in (
       omega (arith, g .before .before .before .loop-test .taken),
-      g .is-resolvent .kept .0 ∙ l .loop .inv .1,
+      g .gives .kept .0 ∙ l .loop .inv .1,
       λ φ d. partner-turn φ (s .args .a) _ _ (s .pre .1 .1 φ (studied-indexes d)) _ (l .loop .j) (l .loop .inv .2 φ d)
           (g .before .before .before .loop-test .taken) _ (g .before .clause-with .ensures φ (filed-of d)) _
-          (g .is-resolvent .ensures (φ .prefix) (good-of φ (d .well)) (d .ranked)) (c .if1 .left),
+          (g .gives .ensures (φ .prefix) (entries-of φ (d .well) (d .holds .fitting)) (d .ranked)) (c .if1 .left),
     )
 
 same-length-2 : tie.Need-same-length-2 Inv-loop μ-loop
@@ -108,7 +108,7 @@ any-gives-spec =
     add-literal
     loop-holds
     clause-with-requires
-    is-resolvent-requires
+    gives-requires
     same-length
     returns
     add-j

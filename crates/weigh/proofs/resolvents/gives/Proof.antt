@@ -1,0 +1,49 @@
+-- A clause with a literal too many gives nothing; any other is tried.
+-- Assumes nothing.
+use mathlib.Core.Path.{sym, _∙_}
+use Rattle.meaning.specs.Formula.{negated}
+use Rattle.permits.proofs.PlaceLaws.{good-entries}
+use Rattle.weigh.proofs.ResolvFits.{not-fits-negative}
+use borrow.Author.Needs.{needs}
+use Rattle.weigh.proofs.resolvents.gives.Statement.{statement}
+use Rattle.weigh.proofs.resolvents.gives.Tie as tie
+
+cast-out : tie.Need-cast-out
+cast-out c = search needs
+
+mul-out : tie.Need-mul-out
+mul-out c = search needs
+
+add-out : tie.Need-add-out
+add-out c = search needs
+
+fits-in-requires : tie.Need-fits-in-requires
+fits-in-requires c κs = search needs
+
+is-resolvent-requires : tie.Need-is-resolvent-requires
+is-resolvent-requires c κs = search needs
+
+same-length : tie.Need-same-length
+same-length c = search needs
+
+returns : tie.Need-returns
+returns c = λ q g k. c .before .before .is-resolvent .ensures q (good-entries q g) k
+
+returns-2 : tie.Need-returns-2
+unfolding negated
+returns-2 c =
+    let s = c .before .before .before .before .before .before .before in
+    λ q g k. sym (not-fits-negative q _ _ _ (s .args .a) (sym (c .before .fits-in .ensures q g k) ∙ c .if1 .left))
+
+pub gives-spec : {M : Type 1} → statement M
+gives-spec =
+    tie.close
+    (tie.spec
+    cast-out
+    mul-out
+    add-out
+    fits-in-requires
+    is-resolvent-requires
+    same-length
+    returns
+    returns-2)
