@@ -1,15 +1,15 @@
-# For scripts that run the program prep, or another x86-64 program in the same way, or build one; sourced, with $home the repository.
+# For scripts that run our programs, or another x86-64 program in the same way, or build one; sourced, with $home the repository.
 
-# Proves and builds the program if it is not there, and says so on standard error.
-need_program() {
+# Proves and builds a program if it is not there, and says so on standard error.
+need_program() { # NAME
     if ! command -v rt >/dev/null 2>&1; then
-        echo "prep: the Rattle toolchain's command rt is not on the PATH" >&2
+        echo "$1: the Rattle toolchain's command rt is not on the PATH" >&2
         return 1
     fi
-    [ -x "$home/target/bin/prep" ] && return 0
-    echo "prep: proving and building the program, once; this takes some minutes, and each crate is named when it is done" >&2
-    if ! (cd "$home" && rt check prep) >&2; then
-        echo "prep: the program could not be proved and built" >&2
+    [ -x "$home/target/bin/$1" ] && return 0
+    echo "$1: proving and building the program, once; this takes some minutes, and each crate is named when it is done" >&2
+    if ! (cd "$home" && rt check "$1") >&2; then
+        echo "$1: the program could not be proved and built" >&2
         return 1
     fi
 }
