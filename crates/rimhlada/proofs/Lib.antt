@@ -1,17 +1,5 @@
-pub mod Promises
-pub mod Demands
-pub mod ReadDemands
-pub mod WriteDemands
-pub mod LiteralsDemands
-pub mod StepDemands
-pub mod RunDemands
-pub mod ReplayStops
-pub mod ReplayDemands
-pub mod RoundTrip
-pub mod Joint
 pub mod LentLaws
 pub mod StepLaws
 pub mod RunLaws
 pub mod ReplayLaws
 pub mod ExplainLaws
-pub mod Explained

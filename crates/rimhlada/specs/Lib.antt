@@ -3,4 +3,3 @@ pub mod Stepping
 pub mod Running
 pub mod Replaying
 pub mod Explaining
-pub mod Demands

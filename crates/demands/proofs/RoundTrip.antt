@@ -21,7 +21,7 @@ use Rattle.reader.specs.Reading.{readNumber, readingFor, lengthsRight, readingO
 use Rattle.reader.specs.declared.Reading.{Reading}
 use Rattle.writer.specs.Written.{Wrote}
 use Rattle.writer.specs.declared.Writing.{Writing}
-use Rattle.rimhlada.specs.Demands.{ReadBack}
+use Rattle.demands.specs.Demands.{ReadBack}
 use Rattle.meaning.proofs.Basics.{by-cases, and-l}
 use Rattle.qdimacs.proofs.Faults.{too-long}
 use Rattle.table.proofs.GoodLaws.{true-holds}

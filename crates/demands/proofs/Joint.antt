@@ -12,16 +12,16 @@ use Rattle.table.specs.Check.{asked}
 use Rattle.table.specs.declared.Counts.{Counts}
 use Rattle.reader.specs.Reading.{readNumber, Reads}
 use Rattle.reader.specs.declared.Reading.{Reading}
 use Rattle.rimhlada.specs.Standing.{formulaIn}
 use Rattle.rimhlada.specs.Stepping.{stepNumber}
 use Rattle.rimhlada.specs.Running.{runNumber, Runs}
 use Rattle.rimhlada.specs.Replaying.{stopAnswer, replayIn, Replays}
-use Rattle.rimhlada.specs.Demands.{TextRead, RunDone, RunDemands, VerdictDemands, RetraceDemands}
+use Rattle.demands.specs.Demands.{TextRead, RunDone, RunDemands, VerdictDemands, RetraceDemands}
 use Rattle.rimhlada.specs.declared.runs.Ran.{Ran}
 use Rattle.rimhlada.specs.declared.replays.Replayed.{Replayed}
-use Rattle.rimhlada.proofs.ReadDemands.{read-demands}
-use Rattle.rimhlada.proofs.RunDemands.{run-demands}
-use Rattle.rimhlada.proofs.ReplayDemands.{number-is, applied-is, final-is}
+use Rattle.demands.proofs.ReadDemands.{read-demands}
+use Rattle.demands.proofs.RunDemands.{run-demands}
+use Rattle.demands.proofs.ReplayDemands.{number-is, applied-is, final-is}
 
 pub verdict : (text a b : List ℕ) (r : Reading) (a₁ b₁ : List ℕ) → Reads text a b r a₁ b₁ → readNumber (r .answer) ≡ 0
     → (E limit : ℕ) (log : List ℕ) (q : Ran) (a₂ b₂ log′ : List ℕ) → Runs a₁ b₁ (r .counts) E limit log q a₂ b₂ log′ → VerdictDemands text E q

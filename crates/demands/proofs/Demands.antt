@@ -13,23 +13,23 @@ use Rattle.reader.specs.Reading.{readNumber, Reads}
 use Rattle.reader.specs.declared.Reading.{Reading}
 use Rattle.writer.specs.Written.{writeNumber, Wrote}
 use Rattle.writer.specs.declared.Writing.{Writing}
 use Rattle.rimhlada.specs.Standing.{formulaIn}
 use Rattle.rimhlada.specs.Stepping.{Steps}
 use Rattle.rimhlada.specs.Running.{runNumber, Runs}
 use Rattle.rimhlada.specs.Replaying.{Replays}
-use Rattle.rimhlada.specs.Demands.{ReadDemands, WriteDemands, LiteralsDemands, NumberDemands, StepDemands, RunDemands, ReplayDemands, VerdictDemands, RetraceDemands, ReadBack}
+use Rattle.demands.specs.Demands.{ReadDemands, WriteDemands, LiteralsDemands, NumberDemands, StepDemands, RunDemands, ReplayDemands, VerdictDemands, RetraceDemands, ReadBack}
 use Rattle.rimhlada.specs.declared.stepping.Stepped.{Stepped}
 use Rattle.rimhlada.specs.declared.runs.Ran.{Ran}
 use Rattle.rimhlada.specs.declared.replays.Replayed.{Replayed}
 use Rattle.writer.proofs.RoundTrip.{wrote-once}
-use Rattle.rimhlada.proofs.ReadDemands.{read-demands, reads-once}
-use Rattle.rimhlada.proofs.WriteDemands.{numbered, write-demands}
-use Rattle.rimhlada.proofs.LiteralsDemands.{literals-demands, literals-once, number-demands, number-once}
-use Rattle.rimhlada.proofs.StepDemands.{step-demands, steps-once}
-use Rattle.rimhlada.proofs.RunDemands.{run-demands, runs-once}
-use Rattle.rimhlada.proofs.ReplayDemands.{replay-demands, replays-once}
-use Rattle.rimhlada.proofs.RoundTrip.{read-back}
-use Rattle.rimhlada.proofs.Joint.{verdict, retrace}
+use Rattle.demands.proofs.ReadDemands.{read-demands, reads-once}
+use Rattle.demands.proofs.WriteDemands.{numbered, write-demands}
+use Rattle.demands.proofs.LiteralsDemands.{literals-demands, literals-once, number-demands, number-once}
+use Rattle.demands.proofs.StepDemands.{step-demands, steps-once}
+use Rattle.demands.proofs.RunDemands.{run-demands, runs-once}
+use Rattle.demands.proofs.ReplayDemands.{replay-demands, replays-once}
+use Rattle.demands.proofs.RoundTrip.{read-back}
+use Rattle.demands.proofs.Joint.{verdict, retrace}
 
 -- Demand 2 ----------------------------------------------------------------------------------------------------
 -- A text that is read leaves its formula, tidied and of the same truth, in tables that the next call takes; every text that writes

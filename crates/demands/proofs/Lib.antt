@@ -1,0 +1,12 @@
+pub mod Promises
+pub mod Demands
+pub mod ReadDemands
+pub mod WriteDemands
+pub mod LiteralsDemands
+pub mod StepDemands
+pub mod RunDemands
+pub mod ReplayStops
+pub mod ReplayDemands
+pub mod RoundTrip
+pub mod Joint
+pub mod Explained
