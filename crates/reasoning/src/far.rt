@@ -53,13 +53,13 @@ fn far_clause(t: &[u16], c: Counts, ranks: &[u16], x: usize, n: usize) -> usize
 fn leftmost_behind(prefix: &[u16], n: usize, clause: &[u16]) -> usize
     ensures { λ r. ⌜ r ≡ leftmostIn (drop n (now (prefix .entry))) (now (clause .entry)) ⌝ }
 {
-    let mut i = n;
-    while i < prefix.len() {
-        let v = (prefix[i] / 2) as usize;
+    let mut at = n;
+    while at < prefix.len() {
+        let v = (prefix[at] / 2) as usize;
         if has_variable(clause, v) {
             return v;
         }
-        i += 1;
+        at += 1;
     }
     0
 }
