@@ -24,6 +24,7 @@ fn answer(
         4 => crate::operations::step(first, second, c, a, out),
         5 => crate::operations::run(first, second, c, a, b, bytes, out),
         6 => crate::operations::replay(first, second, c, bytes, out),
+        7 => crate::operations::reason(first, second, c, a, b, out),
         _ => 0,
     }
 }

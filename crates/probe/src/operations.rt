@@ -1,7 +1,10 @@
 // The operations of the face, each with its result put together; the length of the result is given.
+use crate::reasons::kind_of;
+use crate::reasons::values_of;
 use crate::results::put_front;
 use crate::results::put_part;
 use crate::results::put_rest;
+use crate::results::put_values;
 use rimhlada::Counts;
 
 pub fn read(text: &[u8], first: &mut [u16], second: &mut [u16], out: &mut [u8]) -> usize {
@@ -66,4 +69,19 @@ pub fn replay(
     let d = r.counts;
     let e = put_front(out, answer.number(), d, r.applied);
     put_rest(out, e, first, second, b"")
+}
+
+pub fn reason(
+    first: &mut [u16],
+    second: &mut [u16],
+    c: Counts,
+    variable: u64,
+    allowance: u64,
+    out: &mut [u8],
+) -> usize {
+    let r = rimhlada::reason(first, second, c, variable as usize, allowance as usize);
+    let answer = r.answer;
+    let d = r.counts;
+    let e = put_front(out, answer.number(), d, kind_of(answer));
+    put_values(out, e, first, second, values_of(answer))
 }

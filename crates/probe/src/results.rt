@@ -4,6 +4,7 @@ ghost use lib.ListN.{length};
 use crate::numbers::high;
 use crate::numbers::low;
 use crate::numbers::put_number;
+use crate::reasons::Values;
 use rimhlada::Counts;
 
 // How many numbers of a table reach to the last that is not zero.
@@ -110,4 +111,16 @@ pub fn put_rest(out: &mut [u8], at: usize, first: &[u16], second: &[u16], bytes:
 {
     let e = put_lent(out, at, first, second, bytes);
     put_number(out, e, 0, 8)
+}
+
+// The same, with three values for the bytes, eight bytes each.
+pub fn put_values(out: &mut [u8], at: usize, first: &[u16], second: &[u16], values: Values) -> usize
+    requires { ⌜ at ≤ length (now out) ⌝ }
+    ensures { λ r. do ⌜ r ≤ (← ⟦out.len()⟧ .entry) ⌝ }
+{
+    let mut bytes = [0u8; 24];
+    let e = put_number(&mut bytes, 0, values.one, 8);
+    let f = put_number(&mut bytes, e, values.two, 8);
+    put_number(&mut bytes, f, values.three, 8);
+    put_rest(out, at, first, second, &bytes)
 }
