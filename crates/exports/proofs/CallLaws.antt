@@ -2,7 +2,7 @@
 -- Assumes nothing.
 use Prim.Native.Nat.{ℕ, _≤_, _<_}
 use mathlib.Core.Path.{_≡_, refl}
-use mathlib.Core.List.{List}
+use mathlib.Core.List.{List, [], _∷_}
 use lib.ListN.{getD, set}
 use Rattle.table.specs.declared.Counts.{Counts}
 use Rattle.reader.specs.Reading.{Reads, readNumber}
@@ -12,11 +12,14 @@ use Rattle.writer.specs.declared.Writing.{Writing}
 use Rattle.rimhlada.specs.Stepping.{Steps, stepNumber}
 use Rattle.rimhlada.specs.Running.{Runs, runNumber}
 use Rattle.rimhlada.specs.Replaying.{Replays}
+use Rattle.rimhlada.specs.Explaining.{Explains, reasonNumber}
 use Rattle.rimhlada.specs.declared.stepping.Stepped.{Stepped}
 use Rattle.rimhlada.specs.declared.runs.Ran.{Ran}
 use Rattle.rimhlada.specs.declared.replays.Replayed.{Replayed}
+use Rattle.rimhlada.specs.declared.explains.Reasoned.{Reasoned}
 use Rattle.exports.specs.Records.{sideKnown, countsIn, recordOf, sideNumber, asLent}
-use Rattle.exports.specs.Calls.{Said, Refused, RefusedWith, Write, WriteCall, Step, StepCall, Run, RunCall, Replay, ReplayCall}
+use Rattle.exports.specs.Reasons.{reasonKind, reasonValues, noValues, triple}
+use Rattle.exports.specs.Calls.{Said, Refused, RefusedWith, Write, WriteCall, Step, StepCall, Run, RunCall, Replay, ReplayCall, Reason, NoReason, ReasonCall}
 use Rattle.exports.proofs.RecordLaws.{side-known, side-unknown}
 
 known : (l : List ℕ) (K U : Type 0) → getD l 3 0 ≤ 1 → K → Said (sideKnown l) K U
@@ -47,6 +50,10 @@ module _ (a b l : List ℕ) where
     pub no-replay : (log : List ℕ) → ReplayCall a b l log n a b (set l 4 0)
     no-replay log = unknown l _ _ h refused
 
+    pub no-reason : (v E : ℕ) → ReasonCall a b l v E n a b (set l 4 0) (0 ∷ (0 ∷ (0 ∷ [])))
+    unfolding noValues triple
+    no-reason v E = unknown l _ _ h (record { refused = refused; values = refl })
+
   -- it is not: c is the record
   module _ (h : getD l 3 0 ≤ 1) (c : Counts) (r : c ≡ countsIn l) (n : ℕ) (l′ : List ℕ) where
     pub wrote : (out out′ : List ℕ) (x : Writing) → Wrote a b c out x out′ → n ≡ writeNumber (x .answer) → l′ ≡ recordOf c (x .bytes) → WriteCall a b l out n l′ out′
@@ -61,3 +68,6 @@ module _ (a b l : List ℕ) where
 
       pub replayed : (log : List ℕ) (x : Replayed) → Replays a b c log x a′ b′ → n ≡ stepNumber (x .answer) → l′ ≡ recordOf (x .counts) (x .applied) → ReplayCall a b l log n a′ b′ l′
       replayed log x w e k = known l _ _ h (record { given = x; face = rw r at w; number = e; left = k })
+
+      pub reasoned : (v E : ℕ) (p′ : List ℕ) (x : Reasoned) → Explains a b c v E x a′ b′ → (k : ℕ) → k ≡ reasonKind (x .answer) → n ≡ reasonNumber (x .answer) → l′ ≡ recordOf (x .counts) k → p′ ≡ reasonValues (x .answer) → ReasonCall a b l v E n a′ b′ l′ p′
+      reasoned v E p′ x w k q e g p = known l _ _ h (record { given = x; face = rw r at w; number = e; left = rw q at g; values = p })

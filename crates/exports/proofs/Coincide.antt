@@ -1,5 +1,5 @@
--- Two outcomes of one exported call that conform coincide: the contracts settle the number, the tables, the record, the log and the
--- output. Of the two calls for the literals this is plain: their contracts are equations.
+-- Two outcomes of one exported call that conform coincide: the contracts settle the number, the tables, the record, the log, the
+-- output and the values of a reason. Of the two calls for the literals this is plain: their contracts are equations.
 -- Assumes nothing.
 use Prim.Native.Nat.{ℕ}
 use mathlib.Core.Path.{_≡_, refl, sym, ap, _∙_}
@@ -8,7 +8,7 @@ use Rattle.table.specs.declared.Counts.{Counts}
 use Rattle.rimhlada.specs.Stepping.{stepNumber}
 use Rattle.meaning.proofs.Basics.{by-cases}
 use Rattle.exports.specs.Records.{sideKnown, recordOf}
-use Rattle.exports.specs.Calls.{Refused, RefusedWith, ReadCall, Write, WriteCall, Step, StepCall, Run, RunCall, Replay, ReplayCall}
+use Rattle.exports.specs.Calls.{Refused, RefusedWith, ReadCall, Write, WriteCall, Step, StepCall, Run, RunCall, Replay, ReplayCall, Reason, NoReason, ReasonCall}
 
 -- the numbers, the tables and the records of two outcomes
 pub record Same (n m : ℕ) (a a₂ b b₂ l l₂ : List ℕ) : Type 0 where
@@ -17,7 +17,7 @@ pub record Same (n m : ℕ) (a a₂ b b₂ l l₂ : List ℕ) : Type 0 where
   pub second : b ≡ b₂
   pub left : l ≡ l₂
 
--- with a log or an output
+-- with a log, an output, or the values of a reason
 pub record SameWith (n m : ℕ) (a a₂ b b₂ l l₂ x x₂ : List ℕ) : Type 0 where
   pub same : Same n m a a₂ b b₂ l l₂
   pub bytes : x ≡ x₂
@@ -55,6 +55,21 @@ module _ (a b l : List ℕ) (n m : ℕ) (a′ a₂ b′ b₂ l′ l₂ : List �
     pub replays-coincide : ReplayCall a b l log n a′ b′ l′ → ReplayCall a b l log m a₂ b₂ l₂ → Same n m a′ a₂ b′ b₂ l′ l₂
     replays-coincide x y =
         by-cases (sideKnown l) (λ e. replays (rw e at x) (rw e at y)) (λ e. refusals (rw e at x) (rw e at y))
+
+  -- a reason, by its variable and the allowance; its values are left as p′ and as p₂
+  module _ (v E : ℕ) (p′ p₂ : List ℕ) where
+    reasons : Reason a b l v E n a′ b′ l′ p′ → Reason a b l v E m a₂ b₂ l₂ p₂ → SameWith n m a′ a₂ b′ b₂ l′ l₂ p′ p₂
+    reasons x y =
+        let f = x .face in
+        let g = y .face in
+        record { same = record { number = cc; first = cc; second = cc; left = cc }; bytes = cc }
+
+    no-reasons : NoReason a b l n a′ b′ l′ p′ → NoReason a b l m a₂ b₂ l₂ p₂ → SameWith n m a′ a₂ b′ b₂ l′ l₂ p′ p₂
+    no-reasons x y = record { same = refusals (x .refused) (y .refused); bytes = cc }
+
+    pub reasons-coincide : ReasonCall a b l v E n a′ b′ l′ p′ → ReasonCall a b l v E m a₂ b₂ l₂ p₂ → SameWith n m a′ a₂ b′ b₂ l′ l₂ p′ p₂
+    reasons-coincide x y =
+        by-cases (sideKnown l) (λ e. reasons (rw e at x) (rw e at y)) (λ e. no-reasons (rw e at x) (rw e at y))
 
   -- a log or an output z, which is left as z′ and as z₂
   module _ (z z′ z₂ : List ℕ) where

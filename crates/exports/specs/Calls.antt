@@ -13,10 +13,13 @@ use Rattle.writer.specs.declared.Writing.{Writing}
 use Rattle.rimhlada.specs.Stepping.{Steps, stepNumber}
 use Rattle.rimhlada.specs.Running.{Runs, runNumber}
 use Rattle.rimhlada.specs.Replaying.{Replays}
+use Rattle.rimhlada.specs.Explaining.{Explains, reasonNumber}
 use Rattle.rimhlada.specs.declared.stepping.Stepped.{Stepped}
 use Rattle.rimhlada.specs.declared.runs.Ran.{Ran}
 use Rattle.rimhlada.specs.declared.replays.Replayed.{Replayed}
+use Rattle.rimhlada.specs.declared.explains.Reasoned.{Reasoned}
 use Rattle.exports.specs.Records.{sideKnown, countsIn, recordOf, sideNumber, asLent, noPart, partOf, partIn}
+use Rattle.exports.specs.Reasons.{reasonKind, reasonValues, noValues}
 
 -- A call whose record names a table is the face's; any other is refused. -----------------------------------------
 abbrev pub Said : Bool → Type 0 → Type 0 → Type 0
@@ -97,3 +100,18 @@ pub record Replay (a b l log : List ℕ) (n : ℕ) (a′ b′ l′ : List ℕ) :
 
 abbrev pub ReplayCall : List ℕ → List ℕ → List ℕ → List ℕ → ℕ → List ℕ → List ℕ → List ℕ → Type 0
 ReplayCall a b l log n a′ b′ l′ = Said (sideKnown l) (Replay a b l log n a′ b′ l′) (Refused a b l n a′ b′ l′)
+
+-- A reason: the record as lent, with the kind; and the values, left in p′ whatever stood there -------------------
+pub record Reason (a b l : List ℕ) (v E n : ℕ) (a′ b′ l′ p′ : List ℕ) : Type 0 where
+  pub given : Reasoned
+  pub face : Explains a b (countsIn l) v E given a′ b′
+  pub number : n ≡ reasonNumber (given .answer)
+  pub left : l′ ≡ recordOf (given .counts) (reasonKind (given .answer))
+  pub values : p′ ≡ reasonValues (given .answer)
+
+pub record NoReason (a b l : List ℕ) (n : ℕ) (a′ b′ l′ p′ : List ℕ) : Type 0 where
+  pub refused : Refused a b l n a′ b′ l′
+  pub values : p′ ≡ noValues
+
+abbrev pub ReasonCall : List ℕ → List ℕ → List ℕ → ℕ → ℕ → ℕ → List ℕ → List ℕ → List ℕ → List ℕ → Type 0
+ReasonCall a b l v E n a′ b′ l′ p′ = Said (sideKnown l) (Reason a b l v E n a′ b′ l′ p′) (NoReason a b l n a′ b′ l′ p′)

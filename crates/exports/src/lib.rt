@@ -1,10 +1,13 @@
 // The face for C and C++, as include/rimhlada.h declares it. A slice crosses as a pointer and a length; the record crosses as five
 // numbers: the three counts, the table that holds the formula (0 the first, 1 the second), and one that is given back with the record.
 // A fourth number over 1 is MALFORMED.
+mod reasons;
 mod records;
 
 ghost use mathlib.Core.Path.{_≡_};
-ghost use Rattle.exports.specs.Calls.{ReadCall, WriteCall, LiteralsCall, StepCall, RunCall, ReplayCall, numberAsked};
+ghost use Rattle.exports.specs.Calls.{ReadCall, WriteCall, LiteralsCall, StepCall, RunCall, ReplayCall, ReasonCall, numberAsked};
+use reasons::give_values;
+use reasons::kind_of;
 use records::counts_in;
 use records::give;
 use records::side_number;
@@ -148,5 +151,32 @@ pub extern "C" fn rimhlada_replay(
     let d = x.counts;
     let answer = x.answer;
     give(counts, d, x.applied);
+    answer.number()
+}
+
+// Why a variable is left: the kind of the reason is given with the record, the values that it names are put into the three numbers.
+#[no_mangle]
+pub extern "C" fn rimhlada_reason(
+    first: &mut [u16],
+    second: &mut [u16],
+    counts: &mut [u64; 5],
+    variable: u64,
+    allowance: u64,
+    values: &mut [u64; 3],
+) -> u8
+    ensures { λ r. ⌜ ReasonCall (now (first .entry)) (now (second .entry)) (now (counts .entry)) variable allowance r (now (first .exit)) (now (second .exit)) (now (counts .exit)) (now (values .exit)) ⌝ }
+{
+    if 1 < counts[3] {
+        counts[4] = 0;
+        *values = [0, 0, 0];
+        return side_number(first, second);
+    }
+    let c = counts_in(counts);
+    let x = rimhlada::reason(first, second, c, variable as usize, allowance as usize);
+    let d = x.counts;
+    let answer = x.answer;
+    let kind = kind_of(answer);
+    give(counts, d, kind);
+    give_values(values, answer);
     answer.number()
 }
