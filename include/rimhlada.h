@@ -38,10 +38,10 @@ extern "C" {
 #define RIMHLADA_ENDS_AT 1023
 #define RIMHLADA_LITERALS_AT 3070
 
-/* The largest E that a run takes. */
+/* The largest E that a run or a reason takes. */
 #define RIMHLADA_ALLOWANCE_MOST 1000
 
-/* The numbers given back. The first is no refusal; 20 to 24 are the outcomes of a run. */
+/* The numbers given back. The first is no refusal; 20 to 24 are the outcomes of a run, 20 and 21 verdicts of a reason too. */
 #define RIMHLADA_DONE 0
 #define RIMHLADA_LENGTH 1         /* a table isn't 11,261 long, text too long: nothing written */
 #define RIMHLADA_MALFORMED 2      /* table and counts not a well formed formula: nothing written */
@@ -52,7 +52,7 @@ extern "C" {
 #define RIMHLADA_UNBOUND 7        /* a clause's variable in no quantifier line */
 #define RIMHLADA_COUNT 8          /* a token after C clauses */
 #define RIMHLADA_TOO_BIG 9        /* a limit is passed */
-#define RIMHLADA_NOT_PERMITTED 10 /* a step's condition fails, or its index or variable isn't there: formula unchanged */
+#define RIMHLADA_NOT_PERMITTED 10 /* a step's condition fails, or its index or variable isn't there; a reason's variable isn't: formula unchanged */
 #define RIMHLADA_NO_ROOM 11       /* a step's result passes a limit, or an output buffer is short: formula and output unchanged */
 #define RIMHLADA_BAD_ENTRY 12     /* no log entry, or a log's length is not a multiple of 4: formula unchanged */
 #define RIMHLADA_ALLOWANCE 13     /* E over 1,000: nothing written */
@@ -81,6 +81,18 @@ typedef struct rimhlada_part {
     uint64_t offset;
     uint64_t length;
 } rimhlada_part;
+
+/* Why a variable is left: the kinds of a reason, each with the values that it names, in this order; of the three values the rest are 0. */
+#define RIMHLADA_WHY_NUMBER 0         /* no value: a verdict or a refusal, which the number tells */
+#define RIMHLADA_WHY_NEXT_ENTRY 1     /* entry: the run's next step, of kinds 1 to 5 */
+#define RIMHLADA_WHY_OWN_ENTRY 2      /* entry: the step of kind 6 or 7 on the variable, which counts */
+#define RIMHLADA_WHY_TOO_FAR_RIGHT 3  /* clause, counted from 0; variable of it; the first universal right of the existential asked for */
+#define RIMHLADA_WHY_NOT_LIGHTER 4    /* weight, weight after resolving, which is no less */
+#define RIMHLADA_WHY_BETWEEN 5        /* existential, universal: both right of the universal asked for, in this order */
+#define RIMHLADA_WHY_TOO_HEAVY 6      /* weight, weight after expanding, which is more than E over it */
+#define RIMHLADA_WHY_OVER_VARIABLES 7 /* no value: the step's result would pass this limit first */
+#define RIMHLADA_WHY_OVER_CLAUSES 8   /* no value */
+#define RIMHLADA_WHY_OVER_LITERALS 9  /* no value */
 
 /*
  * Reads QDIMACS text. Gives 0, 1 or 3 to 9.
@@ -139,6 +151,15 @@ uint8_t rimhlada_run(uint16_t *first, size_t first_length, uint16_t *second, siz
  */
 uint8_t rimhlada_replay(uint16_t *first, size_t first_length, uint16_t *second, size_t second_length, rimhlada_record *record,
                         const uint8_t *log, size_t log_length);
+
+/*
+ * Why a variable is left in the formula, for a run with this allowance, E. Gives 0, 1, 2, 10, 13, 20 or 21.
+ * 0: given is the kind of the reason, 1 to 9, and values has what it names: the lowest clause, the leftmost variable, the first universal.
+ * 20, 21: the formula has that verdict. 10: the variable is not in the prefix. But for 0, given and the three values are 0.
+ * 0, 10, 20, 21: the formula and the other four numbers of the record stay; the spare table is zero. 1, 2, 13: both tables stay.
+ */
+uint8_t rimhlada_reason(uint16_t *first, size_t first_length, uint16_t *second, size_t second_length, rimhlada_record *record,
+                        uint64_t variable, uint64_t allowance, uint64_t values[3]);
 
 #ifdef __cplusplus
 }

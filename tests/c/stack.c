@@ -8,6 +8,7 @@
 #include <string.h>
 #include <ucontext.h>
 
+#include "formulas.h"
 #include "rimhlada.h"
 
 #define LIMIT 8192
@@ -18,7 +19,7 @@ static rimhlada_record record;
 static rimhlada_part part;
 static uint8_t text[RIMHLADA_TEXT + 1], out[RIMHLADA_OUTPUT], log_[4 * 8192];
 static size_t text_length = 0, out_length = sizeof out, log_length = sizeof log_, first_length = T;
-static uint64_t allowance, limit;
+static uint64_t allowance, limit, variable, values[3];
 static uint32_t entry;
 static unsigned number;
 
@@ -73,6 +74,12 @@ __attribute__((noinline)) static void do_replay(void)
     number = rimhlada_replay(first, first_length, second, T, &record, log_, log_length);
 }
 
+__attribute__((noinline)) static void do_reason(void)
+{
+    MARK();
+    number = rimhlada_reason(first, first_length, second, T, &record, variable, allowance, values);
+}
+
 static void trampoline(void)
 {
     task();
@@ -116,16 +123,22 @@ static void again(void)
     record = record_kept;
 }
 
-/* Measures a call, and holds the number that it gives to the one expected (one of two, where two are given). */
-static void measure(const char *name, const char *what, void (*call)(void), unsigned expected, unsigned or_else)
+/* The most that a call takes, with the one paint or the other. */
+static size_t most_of(void (*call)(void))
 {
     task = call;
     keep();
     size_t a = used_with(0xA5);
-    rimhlada_record after = record;
     again();
     size_t b = used_with(0x5A);
-    size_t most = a > b ? a : b;
+    return a > b ? a : b;
+}
+
+/* Measures a call, and holds the number that it gives to the one expected (one of two, where two are given). */
+static void measure(const char *name, const char *what, void (*call)(void), unsigned expected, unsigned or_else)
+{
+    size_t most = most_of(call);
+    rimhlada_record after = record;
     int wrong = number != expected && number != or_else;
     int over = most > LIMIT;
     printf("%-24s %-54s number %2u  given %5llu  bytes %5zu%s%s\n", name, what, number, (unsigned long long)after.given, most,
@@ -258,10 +271,51 @@ static void step(const char *what, uint32_t kind, uint32_t a, uint32_t b, unsign
     record = begun_record;
 }
 
+/* A question after a variable of the formula at hand, which stays: for each kind of reason, how many there were and the most that one
+   took. */
+static unsigned reasons_of[10];
+static size_t reason_most[10];
+
+static void question(uint64_t v, uint64_t E)
+{
+    variable = v;
+    allowance = E;
+    size_t most = most_of(do_reason);
+    unsigned kind = (unsigned)record.given % 10;
+    failures += number != RIMHLADA_DONE && number != RIMHLADA_TRUE && number != RIMHLADA_FALSE;
+    reasons_of[kind]++;
+    reason_most[kind] = most > reason_most[kind] ? most : reason_most[kind];
+}
+
+/* Questions after some thirty of its variables. */
+static void questions(uint64_t E)
+{
+    const uint16_t *t = record.second == 1 ? second : first;
+    for (unsigned i = 0; i < record.variables; i += 1 + (unsigned)record.variables / 32) {
+        question(t[i] / 2, E);
+    }
+}
+
+/* The formula built last, as the one at hand. */
+static void take_built(void)
+{
+    failures += rimhlada_read((const uint8_t *)built, strlen(built), first, T, second, T, &record) != RIMHLADA_DONE;
+    memset(second, 0xEE, sizeof second);
+}
+
+/* A question on it, from either table. */
+static void question_built(uint64_t v, uint64_t E)
+{
+    take_built();
+    question(v, E);
+    swap();
+    question(v, E);
+}
+
 /* How many steps of each kind the runs took: those of kinds 6 and 7 are chosen by weight, so there must be some. */
 static unsigned taken[8];
 
-/* A run on the formula at hand, with its replay. */
+/* A run on the formula at hand, with its replay, and questions after variables that are left. */
 static void run(const char *what, uint64_t E, uint64_t most, unsigned expected, unsigned or_else)
 {
     static uint16_t begun[T];
@@ -279,6 +333,7 @@ static void run(const char *what, uint64_t E, uint64_t most, unsigned expected, 
     record = begun_record;
     measure("rimhlada_replay", what, do_replay, RIMHLADA_DONE, RIMHLADA_DONE);
     log_length = sizeof log_;
+    questions(E);
 }
 
 /* The text of the formula at hand, as what is read next. */
@@ -394,6 +449,11 @@ static void runs(void)
     run("full, many universals", 1000, 8192, ended, short_of);
     fill(0, FULL, 10, unit);
     run("full, units first, stopped", 0, 3, RIMHLADA_STOPPED, RIMHLADA_STOPPED);
+    build_sets(5, 102);
+    take_built();
+    allowance = 1000;
+    limit = 1;
+    measure("rimhlada_run", "8,184 literals, equal resolvents weighed, stopped", do_run, RIMHLADA_STOPPED, RIMHLADA_STOPPED);
     fill(0, FULL, 1, none);
     allowance = 1001;
     measure("rimhlada_run", "E over 1,000", do_run, RIMHLADA_ALLOWANCE, RIMHLADA_ALLOWANCE);
@@ -408,6 +468,47 @@ static void runs(void)
     failures += taken[6] == 0 || taken[7] == 0;
 }
 
+/* Questions on full formulas as they are made, and on formulas at the limits, from either table; then what each kind of reason took there and
+   after the runs: there must be some of each. */
+static void reasons(void)
+{
+    static const char *const names[] = {"a verdict",   "the next entry", "the own entry",      "too far right",   "not lighter",
+                                        "between",     "too heavy",      "over the variables", "over the clauses", "over the literals"};
+    for (unsigned blocks = 0; blocks < 3; blocks++) {
+        fill(blocks, FULL, 1, none);
+        questions(1000);
+        swap();
+        questions(0);
+    }
+    build_copies(1017);
+    question_built(1018, 10);
+    build_copies(1012);
+    question_built(1013, 10);
+    build_sets(3, 509);
+    question_built(21, 14);
+    build_sets(5, 102);
+    question_built(21, 14);
+    build_resolvents();
+    question_built(21, 0);
+    for (unsigned kind = 0; kind < 10; kind++) {
+        char line[80];
+        int over = reason_most[kind] > LIMIT;
+        snprintf(line, sizeof line, "%s, %u times", names[kind], reasons_of[kind]);
+        printf("%-24s %-54s kind %14u  bytes %5zu%s\n", "rimhlada_reason", line, kind, reason_most[kind], over ? "  OVER" : "");
+        failures += over || reasons_of[kind] == 0;
+    }
+    fill(0, FULL, 1, none);
+    variable = 1024;
+    measure("rimhlada_reason", "a variable that is not there", do_reason, RIMHLADA_NOT_PERMITTED, RIMHLADA_NOT_PERMITTED);
+    allowance = 1001;
+    measure("rimhlada_reason", "E over 1,000", do_reason, RIMHLADA_ALLOWANCE, RIMHLADA_ALLOWANCE);
+    record.second = 2;
+    measure("rimhlada_reason", "a record that names no table", do_reason, RIMHLADA_MALFORMED, RIMHLADA_MALFORMED);
+    first_length = T - 1;
+    measure("rimhlada_reason", "a table that is too short", do_reason, RIMHLADA_LENGTH, RIMHLADA_LENGTH);
+    first_length = T;
+}
+
 int main(void)
 {
     seed = 1;
@@ -416,5 +517,6 @@ int main(void)
     literals();
     steps();
     runs();
+    reasons();
     return failures ? 1 : 0;
 }
