@@ -44,6 +44,19 @@ module _ {φ : Formula} {a b : List ℕ} {c : Counts} (l : Lends φ a b c) where
   lends-first e = let q : named a b c ≡ a = ap (λ s. cond s b a) e in rw q at (l .holds)
 
 module _ {a b : List ℕ} {c : Counts} (l : Lent a b c) where
+  -- what is known of the formula that is lent is known of it in the source
+  pub known-second : {P : Formula → Type 0} → ((φ : Formula) → Lends φ a b c → P φ) → c .second ≡ true → (φ : Formula) → Holds φ b c → wellFormed φ ≡ true → P φ
+  unfolding named
+  known-second k e φ h w =
+      let q : named a b c ≡ b = ap (λ s. cond s b a) e in
+      k φ (record { holds = rw q h; well = w; first-length = l .lends .first-length; second-length = l .lends .second-length })
+
+  pub known-first : {P : Formula → Type 0} → ((φ : Formula) → Lends φ a b c → P φ) → c .second ≡ false → (φ : Formula) → Holds φ a c → wellFormed φ ≡ true → P φ
+  unfolding named
+  known-first k e φ h w =
+      let q : named a b c ≡ a = ap (λ s. cond s b a) e in
+      k φ (record { holds = rw q h; well = w; first-length = l .lends .first-length; second-length = l .lends .second-length })
+
   pub lent-second : c .second ≡ true → Kept b c × (length a ≡ 11261)
   lent-second e = (record { formula = l .formula; holds = lends-second (l .lends) e; well = l .lends .well }, l .lends .first-length)
 

@@ -2,7 +2,7 @@
 -- Assumes nothing.
 use Prim.Native.Nat.{ℕ}
 use mathlib.Core.Path.{_≡_, refl, sym, ap, _∙_}
-use mathlib.Core.Bool.{Bool, true, false, not, cond}
+use mathlib.Core.Bool.{Bool, true, false, not, cond, false≢true}
 use mathlib.Core.List.{List}
 use native.Mathlib.Omega.{arith}
 use Rattle.meaning.specs.Formula.{Formula}
@@ -15,7 +15,7 @@ use Rattle.table.specs.declared.Counts.{Counts}
 use Rattle.table.specs.declared.Pushed.{Pushed}
 use Rattle.table.specs.declared.Pushed.the-variants.{Done, Full}
 use Rattle.steps.specs.Decide.{callPermitted}
-use Rattle.apply.specs.Applied.{callResult, refusalOf, refusedAs, steppingAs, sourceAfter, targetAfter, Settled, Applied, Tried, Stands, formulaAfter, sideAfter, Moves}
+use Rattle.apply.specs.Applied.{Known, callResult, refusalOf, refusedAs, steppingAs, sourceAfter, targetAfter, Settled, Applied, Tried, Stands, formulaAfter, sideAfter, Moves}
 use Rattle.apply.specs.declared.Stepping.{Stepping}
 use Rattle.apply.specs.declared.Stepping.the-variants.{Stepped, BadEntry, NotPermitted, NoRoom}
 
@@ -29,6 +29,22 @@ refused-step : (φ : Formula) (x : Call) → callPermitted φ x ≡ false → st
 unfolding callPermitted stepCall refusalOf
 refused-step φ bad p = refl
 refused-step φ (call k a b) p = rw p
+
+-- a caller who knows nothing
+pub nothing-known : (φ : Formula) (e : ℕ) → Known φ e false
+nothing-known φ e h = absurd (false≢true h)
+
+-- a step that is done is permitted
+pub stepped-permitted : (φ χ : Formula) (e : ℕ) → stepOf φ e ≡ stepped χ → callPermitted φ (readEntry e) ≡ true
+unfolding stepOf
+stepped-permitted φ χ e h = go (callPermitted φ (readEntry e)) refl
+  where
+    never : {y : Refusal} {A : Type 0} → refused y ≡ stepped χ → A
+    never i = let z : _≡_ {A = ℕ} 0 1 = cc in absurd (omega arith)
+
+    go : (b : Bool) → callPermitted φ (readEntry e) ≡ b → callPermitted φ (readEntry e) ≡ true
+    go true p = p
+    go false p = never (sym (refused-step φ (readEntry e) p) ∙ h)
 
 module _ (φ : Formula) (e : ℕ) (x : Call) (is : x ≡ readEntry e) (s : Bool) (t : List ℕ) where
   step-is : stepOf φ e ≡ stepCall φ x

@@ -7,9 +7,10 @@ use mathlib.Core.List.{List}
 use lib.ListN.{length}
 use Rattle.meaning.specs.Formula.{Formula}
 use Rattle.meaning.specs.WellFormed.{wellFormed}
-use Rattle.rules.specs.Entry.{Call, bad, call}
+use Rattle.rules.specs.Entry.{Call, bad, call, readEntry}
 use Rattle.rules.specs.Step.{resultOf, Refusal, entryBad, notPermitted, noRoom, StepAnswer, refused, stepped, stepOf}
 use Rattle.table.specs.Table.{tableLength, tableOf, countsOf, emptyFormula, Holds}
+use Rattle.steps.specs.Decide.{callPermitted}
 use Rattle.table.specs.Check.{named}
 use Rattle.table.specs.declared.Counts.{Counts}
 use Rattle.apply.specs.declared.Stepping.{Stepping}
@@ -25,6 +26,10 @@ callResult φ (call k a b) = resultOf φ k a b
 unfoldable pub refusalOf : Call → Refusal
 refusalOf bad = entryBad
 refusalOf (call k a b) = notPermitted
+
+-- the caller knows that the entry e calls a permitted step, where it says so
+abbrev pub Known : Formula → ℕ → Bool → Type 0
+Known φ e known = known ≡ true → callPermitted φ (readEntry e) ≡ true
 
 -- What is given back ------------------------------------------------------------------------------------------
 unfoldable pub refusedAs : Refusal → Stepping

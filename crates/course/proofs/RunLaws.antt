@@ -22,9 +22,11 @@ use Rattle.choice.specs.declared.Next.the-variants as says
 use Rattle.choice.specs.declared.End as choice
 use Rattle.table.specs.Table.{countsOf}
 use Rattle.table.specs.declared.Counts.{Counts}
-use Rattle.apply.specs.Applied.{Stands}
+use Rattle.apply.specs.Applied.{Known, Lends, Stands}
+use Rattle.apply.proofs.StepLaws.{stepped-permitted}
+use Rattle.table.proofs.DecodeLaws.{decode-holds}
 use Rattle.course.specs.Course.{outcomeAs, endedAs, sideFrom, Here, RanAs}
-use Rattle.course.proofs.HereLaws.{here-side}
+use Rattle.course.proofs.HereLaws.{here-side, here-lends}
 use Rattle.course.specs.declared.Outcome.{Outcome}
 use Rattle.course.specs.declared.Outcome.the-variants.{Stopped}
 use Rattle.course.specs.declared.Running.{Running}
@@ -117,6 +119,15 @@ module _ (φ : Formula) (E room : ℕ) (s : Bool) (log₀ : List ℕ) where
     -- the choice leaves the spare table zero
     pub turns-chosen : {a′ b′ : List ℕ} → Stands (t .formula) (d .second) a′ b′ → Here (t .formula) (sideFrom s n) a′ b′ d
     turns-chosen k = record { stands = rw (here-side (t .here)) at k; counts = t .here .counts; well = t .here .well; room = t .here .room }
+
+    -- the step that is chosen is permitted
+    pub turns-known : (e : ℕ) → says.Step e ≡ nextAs (next E (t .formula)) → {a′ b′ : List ℕ} → Here (t .formula) (sideFrom s n) a′ b′ d → (χ : Formula) → Lends χ a′ b′ d → Known χ e true
+    turns-known e h {a′} {b′} k χ l =
+        let ψ = t .formula in
+        let p = step-is (next E ψ) e h in
+        let g = going E ψ (t .here .well) (t .here .room) (p .kind) (p .a) (p .b) (p .is) in
+        let q : ψ ≡ χ = sym (decode-holds ψ _ d (here-lends k .holds)) ∙ decode-holds χ _ d (l .holds) in
+        λ y. rw q at (stepped-permitted ψ _ e (ap (stepOf ψ) (p .number) ∙ g .steps))
 
     -- nothing more is done
     ends : (o : Rattle.rules.specs.Run.Outcome) → runFrom E (room - n) (t .formula) ≡ ranNothing o (t .formula) → (r : Running) → r ≡ record { outcome = outcomeAs o; counts = d; steps = n } → {a′ b′ : List ℕ} → Stands (t .formula) (sideFrom s n) a′ b′ → RanAs (runFrom E room φ) s log₀ r a′ b′ log

@@ -1,13 +1,13 @@
 // The two lent tables while a run or a replay goes on: the formula on one side, the other zero.
 ghost use mathlib.Core.Path.{_≡_};
 ghost use Prim.Native.Nat.{_≤_};
-ghost use mathlib.Core.Bool.{not};
+ghost use mathlib.Core.Bool.{true, not};
 ghost use Rattle.meaning.specs.Formula.{Formula};
 ghost use Rattle.rules.specs.Step.{stepped, stepOf};
 ghost use Rattle.rules.specs.Run as rules;
 ghost use Rattle.table.specs.Table.{countsOf};
 ghost use Rattle.choice.specs.Chosen.{nextAs};
-ghost use Rattle.apply.specs.Applied.{Lends, Lent, Stands};
+ghost use Rattle.apply.specs.Applied.{Known, Lends, Lent, Stands};
 use apply::Stepping;
 use apply::step;
 use choice::Next;
@@ -38,12 +38,12 @@ pub fn choose_between(first: &mut [u16], second: &mut [u16], c: Counts, allowanc
     choose(first, c, second, allowance)
 }
 
-// A step that is permitted and has room: the record after it.
+// A step that is permitted, as the run knows, and has room: the record after it.
 pub fn advance(first: &mut [u16], second: &mut [u16], c: Counts, entry: u32) -> Counts
-    requires { ⌜ Lent (now first) (now second) c ⌝ }
+    requires { ⌜ Lent (now first) (now second) c × ((φ : Formula) → Lends φ (now first) (now second) c → Known φ entry true) ⌝ }
     ensures { λ r. ⌜ ((φ ψ : Formula) → Lends φ (now (first .entry)) (now (second .entry)) c → stepOf φ entry ≡ stepped ψ → (r ≡ countsOf ψ (not (c .second))) × Stands ψ (not (c .second)) (now (first .exit)) (now (second .exit))) ⌝ }
 {
-    match step(first, second, c, entry) {
+    match step(first, second, c, entry, true) {
         Stepping::Stepped(d) => d,
         Stepping::BadEntry => c,
         Stepping::NotPermitted => c,

@@ -37,7 +37,7 @@ pub fn replay(first: &mut [u16], second: &mut [u16], c: Counts, log: &[u8]) -> R
     while n < log.len() / 4 {
         let at = 4 * n;
         let entry = first_entry(&log[at..]);
-        match step(first, second, d, entry) {
+        match step(first, second, d, entry, false) {
             Stepping::Stepped(e) => {
                 d = e;
             }

@@ -68,7 +68,7 @@ pub fn step(first: &mut [u16], second: &mut [u16], c: Counts, entry: u32) -> Ste
 {
     match literals_answer(first, second, c) {
         Asked::Given => {
-            let r = apply::step(first, second, c, entry);
+            let r = apply::step(first, second, c, entry, false);
             return give_back(r, c);
         }
         Asked::WrongLength => {

@@ -19,11 +19,14 @@ slice-aggregate-rank-prefix-2 c = search needs
 rank-prefix-requires : tie.Need-rank-prefix-requires
 rank-prefix-requires c κs = (refl, prefix-short (kept-held (c .before .before .before .before .before .pre .0)))
 
-slice-aggregate-is-permitted : tie.Need-slice-aggregate-is-permitted
-slice-aggregate-is-permitted c = search needs
+slice-aggregate-may-go : tie.Need-slice-aggregate-may-go
+slice-aggregate-may-go c = search needs
 
-is-permitted-requires : tie.Need-is-permitted-requires
-is-permitted-requires c κs = search needs
+may-go-requires : tie.Need-may-go-requires
+may-go-requires c κs =
+    let k = c .before .before in
+    let s = k .before .before .before .before .before .before .pre in
+    let e = k .before .before .before .read-entry .ensures in (kept-held (s .0), k .rank-prefix .kept .1 .0, λ φ g t. rw e (s .2 φ (g .holds) (g .well) t))
 
 slice-aggregate-perform : tie.Need-slice-aggregate-perform
 slice-aggregate-perform c = search needs
@@ -49,7 +52,7 @@ returns c =
     let i = p .before .before .before .before .before in
     let k = i .before .before .before in
     let r = k .before .before .before .read-entry .ensures in
-    λ φ h w. let g = given-of h w (k .rank-prefix .ensures) in let y = sym (i .is-permitted .ensures φ g) ∙ p .before .before .before .before .if1 .taken in
+    λ φ h w. let g = given-of h w (k .rank-prefix .ensures) in let y = sym (i .may-go .ensures φ g) ∙ p .before .before .before .before .if1 .taken in
     tried-done φ _ _ r _ _ _ y (rw (c .before .d .given .1) at (p .perform .ensures φ g y))
 
 enum-told : tie.Need-enum-told
@@ -64,7 +67,7 @@ returns-2 c =
     let i = p .before .before .before .before .before in
     let k = i .before .before .before in
     let r = k .before .before .before .read-entry .ensures in
-    λ φ h w. let g = given-of h w (k .rank-prefix .ensures) in let y = sym (i .is-permitted .ensures φ g) ∙ p .before .before .before .before .if1 .taken in
+    λ φ h w. let g = given-of h w (k .rank-prefix .ensures) in let y = sym (i .may-go .ensures φ g) ∙ p .before .before .before .before .if1 .taken in
     tried-full φ _ _ r _ _ y (rw (c .enum-told .given .1) at (p .perform .ensures φ g y))
 
 refuse-requires : tie.Need-refuse-requires
@@ -76,7 +79,7 @@ returns-3 c =
     let k = i .before .before .before in
     let r = k .before .before .before .read-entry .ensures in
     λ φ h w. let g = given-of h w (k .rank-prefix .ensures) in
-    tried-not φ _ _ r _ _ _ (sym (i .is-permitted .ensures φ g) ∙ c .before .if1 .left) (c .refuse .ensures)
+    tried-not φ _ _ r _ _ _ (sym (i .may-go .ensures φ g) ∙ c .before .if1 .left) (c .refuse .ensures)
 
 pub attempt-spec : {M : Type 1} → statement M
 attempt-spec =
@@ -86,8 +89,8 @@ attempt-spec =
     slice-aggregate-rank-prefix
     slice-aggregate-rank-prefix-2
     rank-prefix-requires
-    slice-aggregate-is-permitted
-    is-permitted-requires
+    slice-aggregate-may-go
+    may-go-requires
     slice-aggregate-perform
     slice-aggregate-perform-2
     perform-requires

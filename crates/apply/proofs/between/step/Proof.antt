@@ -2,14 +2,17 @@
 -- Assumes nothing.
 use mathlib.Core.Path.{ap}
 use mathlib.Core.Bool.{not}
-use Rattle.apply.proofs.StartLaws.{lends-second, lends-first, lent-second, lent-first}
+use Rattle.apply.proofs.StartLaws.{lends-second, lends-first, lent-second, lent-first, known-second, known-first}
 use Rattle.apply.proofs.StepLaws.{moves-second, moves-first}
 use borrow.Author.Needs.{needs}
 use Rattle.apply.proofs.between.step.Statement.{statement}
 use Rattle.apply.proofs.between.step.Tie as tie
 
 step-between-requires : tie.Need-step-between-requires
-step-between-requires c κs = lent-second (c .before .before .before .before .before .pre) (c .before .before .if1 .taken)
+step-between-requires c κs =
+    let p = c .before .before .before .before .before .pre in
+    let e = c .before .before .if1 .taken in
+    let k = lent-second (p .0) e in (k .0, k .1, known-second (p .0) (p .1) e)
 
 same-length : tie.Need-same-length
 same-length c = search needs
@@ -21,7 +24,10 @@ returns : tie.Need-returns
 returns c = let e = c .before .before .before .before .before .before .before .if1 .taken in λ φ l. rw e (moves-first φ _ _ _ _ _ (ap not e) (c .before .before .before .before .step-between .ensures φ (lends-second l e) (l .well)))
 
 step-between-requires-2 : tie.Need-step-between-requires-2
-step-between-requires-2 c κs = lent-first (c .before .before .before .before .before .pre) (c .before .before .if1 .left)
+step-between-requires-2 c κs =
+    let p = c .before .before .before .before .before .pre in
+    let e = c .before .before .if1 .left in
+    let k = lent-first (p .0) e in (k .0, k .1, known-first (p .0) (p .1) e)
 
 same-length-3 : tie.Need-same-length-3
 same-length-3 c = search needs

@@ -6,6 +6,7 @@ use lib.ListN.{length}
 use Rattle.meaning.specs.Formula.{Formula}
 use Rattle.rules.specs.Step.{entryBad, notPermitted, noRoom}
 use Rattle.apply.specs.Applied.{refusedAs}
+use Rattle.apply.proofs.StepLaws.{nothing-known}
 use Rattle.course.specs.Course.{Here, stopAs}
 use Rattle.course.proofs.HereLaws.{lends-here}
 use Rattle.course.proofs.ReplayLaws.{entry-there, Along, along-start, along-bad, along-lent, along-end, along-stepped, along-refused}
@@ -63,7 +64,7 @@ step-requires c κs =
     let k = c .before .before .before .before .before in
     let l = k .before .before .before .before .before .before .before .before .before .before .before .before .pre in
     let z = k .before .before .before .before .before .before .clear-spare .ensures (l .formula) (l .lends) in
-    along-lent (k .loop .inv .2 (l .formula) (lends-here (l .lends) z))
+    (along-lent (k .loop .inv .2 (l .formula) (lends-here (l .lends) z)), λ φ h. nothing-known φ _)
 
 enum-known-e : tie.Need-enum-known-e Inv-loop μ-loop
 enum-known-e c = search needs

@@ -8,7 +8,7 @@ use Rattle.meaning.specs.Formula.{Formula}
 use Rattle.rules.specs.Run.{run}
 use Rattle.course.specs.Course.{Here}
 use Rattle.course.proofs.HereLaws.{here-lends, here-lent, lends-here}
-use Rattle.course.proofs.RunLaws.{Turns, turns-start, turns-chosen, turns-over, turns-stopped, turns-next, entry-written}
+use Rattle.course.proofs.RunLaws.{Turns, turns-start, turns-chosen, turns-known, turns-over, turns-stopped, turns-next, entry-written}
 use borrow.Author.Needs.{needs}
 use Rattle.course.proofs.runs.run.Statement.{statement}
 use Rattle.course.proofs.runs.run.Tie as tie
@@ -103,7 +103,8 @@ advance-requires c κs =
     let l = k .before .before .before in
     let p = l .before .before .before .before .before .before .before .before .before .before .before .before .pre in
     let t = l .loop .inv .4 (p .0 .formula) (lends-here (p .0 .lends) (l .before .before .before .before .before .clear-spare .ensures (p .0 .formula) (p .0 .lends))) in
-    here-lent (turns-chosen (p .0 .formula) _ _ _ _ t (k .choose-between .ensures (t .formula) (here-lends (t .here)) .1))
+    let q = k .choose-between .ensures (t .formula) (here-lends (t .here)) in
+    let h = turns-chosen (p .0 .formula) _ _ _ _ t (q .1) in (here-lent h, turns-known (p .0 .formula) _ _ _ _ t _ (sym (c .before .before .before .before .before .before .before .before .entry .given .1) ∙ q .0) h)
 
 add-n : tie.Need-add-n Inv-loop μ-loop
 add-n c = search needs

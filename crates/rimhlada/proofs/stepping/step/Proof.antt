@@ -1,6 +1,7 @@
 -- By what is said of the tables.
 -- Assumes nothing.
 use borrow.Author.Needs.{needs}
+use Rattle.apply.proofs.StepLaws.{nothing-known}
 use Rattle.rimhlada.proofs.LentLaws.{lends, lent}
 use Rattle.rimhlada.proofs.StepLaws.{steps-length, steps-malformed, steps-given}
 use Rattle.rimhlada.proofs.stepping.step.Statement.{statement}
@@ -13,7 +14,7 @@ enum-told : tie.Need-enum-told
 enum-told c = search needs
 
 step-requires : tie.Need-step-requires
-step-requires c κs = let k = c .before .before in lent _ _ _ _ (k .before .before .literals-answer .ensures) (k .enum-told .given .1)
+step-requires c κs = let k = c .before .before in (lent _ _ _ _ (k .before .before .literals-answer .ensures) (k .enum-told .given .1), λ φ h. nothing-known φ _)
 
 give-back-requires : tie.Need-give-back-requires
 give-back-requires c κs = search needs
