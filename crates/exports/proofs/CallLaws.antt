@@ -18,7 +18,7 @@ use Rattle.rimhlada.specs.declared.runs.Ran.{Ran}
 use Rattle.rimhlada.specs.declared.replays.Replayed.{Replayed}
 use Rattle.rimhlada.specs.declared.explains.Reasoned.{Reasoned}
 use Rattle.exports.specs.Records.{sideKnown, countsIn, recordOf, sideNumber, asLent}
-use Rattle.exports.specs.Reasons.{reasonKind, reasonValues, noValues, triple}
+use Rattle.rimhlada.specs.Values.{reasonKind, reasonValues, noValues, triple}
 use Rattle.exports.specs.Calls.{Said, Refused, RefusedWith, Write, WriteCall, Step, StepCall, Run, RunCall, Replay, ReplayCall, Reason, NoReason, ReasonCall}
 use Rattle.exports.proofs.RecordLaws.{side-known, side-unknown}
 

@@ -19,7 +19,7 @@ use Rattle.rimhlada.specs.declared.runs.Ran.{Ran}
 use Rattle.rimhlada.specs.declared.replays.Replayed.{Replayed}
 use Rattle.rimhlada.specs.declared.explains.Reasoned.{Reasoned}
 use Rattle.exports.specs.Records.{sideKnown, countsIn, recordOf, sideNumber, asLent, noPart, partOf, partIn}
-use Rattle.exports.specs.Reasons.{reasonKind, reasonValues, noValues}
+use Rattle.rimhlada.specs.Values.{reasonKind, reasonValues, noValues}
 
 -- A call whose record names a table is the face's; any other is refused. -----------------------------------------
 abbrev pub Said : Bool → Type 0 → Type 0 → Type 0

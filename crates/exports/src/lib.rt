@@ -1,13 +1,10 @@
 // The face for C and C++, as include/rimhlada.h declares it. A slice crosses as a pointer and a length; the record crosses as five
 // numbers: the three counts, the table that holds the formula (0 the first, 1 the second), and one that is given back with the record.
 // A fourth number over 1 is MALFORMED.
-mod reasons;
 mod records;
 
 ghost use mathlib.Core.Path.{_≡_};
 ghost use Rattle.exports.specs.Calls.{ReadCall, WriteCall, LiteralsCall, StepCall, RunCall, ReplayCall, ReasonCall, numberAsked};
-use reasons::give_values;
-use reasons::kind_of;
 use records::counts_in;
 use records::give;
 use records::side_number;
@@ -175,8 +172,8 @@ pub extern "C" fn rimhlada_reason(
     let x = rimhlada::reason(first, second, c, variable as usize, allowance as usize);
     let d = x.counts;
     let answer = x.answer;
-    let kind = kind_of(answer);
+    let kind = rimhlada::reason_kind(answer);
     give(counts, d, kind);
-    give_values(values, answer);
+    rimhlada::reason_values(values, answer);
     answer.number()
 }

@@ -4,7 +4,6 @@ mod calls;
 mod inputs;
 mod numbers;
 mod operations;
-mod reasons;
 mod results;
 
 // A proved loop has to end, and nothing says that the input does. So the loop counts its turns down, from a number that no run

@@ -1,6 +1,4 @@
 // The operations of the face, each with its result put together; the length of the result is given.
-use crate::reasons::kind_of;
-use crate::reasons::values_of;
 use crate::results::put_front;
 use crate::results::put_part;
 use crate::results::put_rest;
@@ -82,6 +80,8 @@ pub fn reason(
     let r = rimhlada::reason(first, second, c, variable as usize, allowance as usize);
     let answer = r.answer;
     let d = r.counts;
-    let e = put_front(out, answer.number(), d, kind_of(answer));
-    put_values(out, e, first, second, values_of(answer))
+    let e = put_front(out, answer.number(), d, rimhlada::reason_kind(answer));
+    let mut values = [0u64; 3];
+    rimhlada::reason_values(&mut values, answer);
+    put_values(out, e, first, second, &values)
 }

@@ -4,7 +4,6 @@ ghost use lib.ListN.{length};
 use crate::numbers::high;
 use crate::numbers::low;
 use crate::numbers::put_number;
-use crate::reasons::Values;
 use rimhlada::Counts;
 
 // How many numbers of a table reach to the last that is not zero.
@@ -114,13 +113,19 @@ pub fn put_rest(out: &mut [u8], at: usize, first: &[u16], second: &[u16], bytes:
 }
 
 // The same, with three values for the bytes, eight bytes each.
-pub fn put_values(out: &mut [u8], at: usize, first: &[u16], second: &[u16], values: Values) -> usize
+pub fn put_values(
+    out: &mut [u8],
+    at: usize,
+    first: &[u16],
+    second: &[u16],
+    values: &[u64; 3],
+) -> usize
     requires { ⌜ at ≤ length (now out) ⌝ }
     ensures { λ r. do ⌜ r ≤ (← ⟦out.len()⟧ .entry) ⌝ }
 {
     let mut bytes = [0u8; 24];
-    let e = put_number(&mut bytes, 0, values.one, 8);
-    let f = put_number(&mut bytes, e, values.two, 8);
-    put_number(&mut bytes, f, values.three, 8);
+    let e = put_number(&mut bytes, 0, values[0], 8);
+    let f = put_number(&mut bytes, e, values[1], 8);
+    put_number(&mut bytes, f, values[2], 8);
     put_rest(out, at, first, second, &bytes)
 }

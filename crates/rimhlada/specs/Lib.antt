@@ -3,3 +3,4 @@ pub mod Stepping
 pub mod Running
 pub mod Replaying
 pub mod Explaining
+pub mod Values

@@ -4,6 +4,7 @@ mod explains;
 mod replays;
 mod runs;
 mod stepping;
+mod values;
 
 pub use asking::literals;
 pub use asking::literals_number;
@@ -22,6 +23,8 @@ pub use stepping::StepAnswer;
 pub use stepping::Stepped;
 pub use stepping::step;
 pub use table::Counts;
+pub use values::reason_kind;
+pub use values::reason_values;
 pub use writer::WriteAnswer;
 pub use writer::Writing;
 pub use writer::write;

@@ -29,14 +29,14 @@ counts-in-requires c κs = search needs
 reason-requires : tie.Need-reason-requires
 reason-requires c κs = search needs
 
-kind-of-requires : tie.Need-kind-of-requires
-kind-of-requires c κs = search needs
+reason-kind-requires : tie.Need-reason-kind-requires
+reason-kind-requires c κs = search needs
 
 give-requires : tie.Need-give-requires
 give-requires c κs = search needs
 
-give-values-requires : tie.Need-give-values-requires
-give-values-requires c κs = search needs
+reason-values-requires : tie.Need-reason-values-requires
+reason-values-requires c κs = search needs
 
 number-requires : tie.Need-number-requires
 number-requires c κs = search needs
@@ -52,7 +52,7 @@ returns-2 c =
     let g = c .before .before .before in
     let s = g .before .before .before .before .before .before .before .before in
     let k = s .before .before .before in
-    reasoned _ _ _ (k .before .before .if1 .left) _ (k .counts-in .ensures) _ _ _ _ _ _ _ _ (s .reason .ensures) _ (g .before .before .kind-of .ensures) (c .number .ensures) (g .give .ensures) (c .before .give-values .ensures)
+    reasoned _ _ _ (k .before .before .if1 .left) _ (k .counts-in .ensures) _ _ _ _ _ _ _ _ (s .reason .ensures) _ (g .before .before .reason-kind .ensures) (c .number .ensures) (g .give .ensures) (c .before .reason-values .ensures)
 
 pub rimhlada-reason-spec : {M : Type 1} → statement M
 rimhlada-reason-spec =
@@ -66,9 +66,9 @@ rimhlada-reason-spec =
     returns
     counts-in-requires
     reason-requires
-    kind-of-requires
+    reason-kind-requires
     give-requires
-    give-values-requires
+    reason-values-requires
     number-requires
     same-length-3
     same-length-4

@@ -1,10 +1,10 @@
-// A reason, between the face and C: its kind, and the values that it names.
+// A reason as numbers, for callers who take numbers only: its kind, and the values that it names.
 ghost use mathlib.Core.Path.{_≡_};
-ghost use Rattle.exports.specs.Reasons.{reasonKind, reasonValues};
-use rimhlada::ReasonAnswer;
+ghost use Rattle.rimhlada.specs.Values.{reasonKind, reasonValues};
+use crate::explains::ReasonAnswer;
 
 // The kind; 0 for a verdict or a refusal, which the answer's number tells.
-pub fn kind_of(answer: ReasonAnswer) -> usize
+pub fn reason_kind(answer: ReasonAnswer) -> usize
     ensures { λ r. ⌜ r ≡ reasonKind answer ⌝ }
 {
     match answer {
@@ -27,7 +27,7 @@ pub fn kind_of(answer: ReasonAnswer) -> usize
 }
 
 // The values, in the order in which the reason names them, then zeros.
-pub fn give_values(values: &mut [u64; 3], answer: ReasonAnswer)
+pub fn reason_values(values: &mut [u64; 3], answer: ReasonAnswer)
     ensures { λ _. ⌜ now (values .exit) ≡ reasonValues answer ⌝ }
 {
     match answer {

@@ -1,9 +1,9 @@
 -- Each answer has its kind.
 -- Assumes nothing.
-use Rattle.exports.specs.Reasons.{reasonKind}
+use Rattle.rimhlada.specs.Values.{reasonKind}
 use borrow.Author.Needs.{needs}
-use Rattle.exports.proofs.reasons.kind_of.Statement.{statement}
-use Rattle.exports.proofs.reasons.kind_of.Tie as tie
+use Rattle.rimhlada.proofs.values.reason_kind.Statement.{statement}
+use Rattle.rimhlada.proofs.values.reason_kind.Tie as tie
 
 enum-told : tie.Need-enum-told
 enum-told c = search needs
@@ -110,8 +110,8 @@ returns-15 : tie.Need-returns-15
 unfolding reasonKind
 returns-15 c = rw (c .enum-told15 .given .1)
 
-pub kind-of-spec : {M : Type 1} → statement M
-kind-of-spec =
+pub reason-kind-spec : {M : Type 1} → statement M
+reason-kind-spec =
     tie.close
     (tie.spec
     enum-told

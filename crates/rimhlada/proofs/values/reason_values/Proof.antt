@@ -1,9 +1,9 @@
 -- Each answer has its values.
 -- Assumes nothing.
-use Rattle.exports.specs.Reasons.{reasonValues, noValues, triple}
+use Rattle.rimhlada.specs.Values.{reasonValues, noValues, triple}
 use borrow.Author.Needs.{needs}
-use Rattle.exports.proofs.reasons.give_values.Statement.{statement}
-use Rattle.exports.proofs.reasons.give_values.Tie as tie
+use Rattle.rimhlada.proofs.values.reason_values.Statement.{statement}
+use Rattle.rimhlada.proofs.values.reason_values.Tie as tie
 
 enum-told : tie.Need-enum-told
 enum-told c = search needs
@@ -116,8 +116,8 @@ returns-15 : tie.Need-returns-15
 unfolding reasonValues noValues triple
 returns-15 c = rw (c .before .enum-told9 .given .1)
 
-pub give-values-spec : {M : Type 1} → statement M
-give-values-spec =
+pub reason-values-spec : {M : Type 1} → statement M
+reason-values-spec =
     tie.close
     (tie.spec
     enum-told
