@@ -70,8 +70,7 @@ impl Comparison {
         let mut next = 0;
         while next < group.count {
             let last = (next + BATCH).min(group.count);
-            let calls: Vec<Call> =
-                (next..last).map(|i| (group.make)(&mut Rng::of_case(self.options.seed, group.name, i), i)).collect();
+            let calls: Vec<Call> = (next..last).map(|i| group.call(self.options.seed, i)).collect();
             let done = self.run_batch(group, next, &calls, &mut coverage);
             next += done;
         }

@@ -42,6 +42,7 @@ pub fn call(call: &Call) -> String {
     let mut out = format!("  {:?}, {}", call.operation, record(&call.record));
     match call.operation {
         Operation::Step => out.push_str(&format!(", entry {:08x} {:?}", call.a, entry::decode(call.a as u32))),
+        Operation::Reason => out.push_str(&format!(", variable {}, E {}", call.a, call.b)),
         Operation::Run => out.push_str(&format!(", E {}, limit {}, log of {} bytes", call.a, call.b, call.bytes.len())),
         _ => {}
     }

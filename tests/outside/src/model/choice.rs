@@ -21,16 +21,13 @@ pub enum Choice {
 
 /// What stands at this point with allowance E.
 pub fn choice(f: &Formula, allowance: u64) -> Choice {
-    if f.clauses.iter().any(|c| c.is_empty()) {
-        return Choice::False;
-    }
-    if f.clauses.is_empty() {
-        return Choice::True;
+    match verdict(f) {
+        Some(true) => return Choice::True,
+        Some(false) => return Choice::False,
+        None => {}
     }
     let at = Occurrences::of(f);
-    let light =
-        unit(f).or_else(|| pure(f, &at)).or_else(|| subsume(f, &at)).or_else(|| strengthen(f, &at)).or_else(|| equality(f));
-    if let Some(e) = light {
+    if let Some(e) = light(f, &at) {
         let result = whole(f, e).expect("a candidate is permitted");
         return Choice::Take(e, result);
     }
@@ -44,6 +41,26 @@ pub fn choice(f: &Formula, allowance: u64) -> Choice {
         }
     }
     Choice::Nothing { for_room: !resolve.is_empty() || !expand.is_empty() }
+}
+
+/// An empty clause, FALSE; no clause, TRUE; else nothing is decided.
+pub fn verdict(f: &Formula) -> Option<bool> {
+    if f.clauses.iter().any(|c| c.is_empty()) {
+        Some(false)
+    } else if f.clauses.is_empty() {
+        Some(true)
+    } else {
+        None
+    }
+}
+
+/// The step of kinds 1 to 5 that a run takes, if there is a candidate. No verdict stands.
+pub fn next_light(f: &Formula) -> Option<Entry> {
+    light(f, &Occurrences::of(f))
+}
+
+fn light(f: &Formula, at: &Occurrences) -> Option<Entry> {
+    unit(f).or_else(|| pure(f, at)).or_else(|| subsume(f, at)).or_else(|| strengthen(f, at)).or_else(|| equality(f))
 }
 
 /// Which clauses hold a literal, ascending.

@@ -1,8 +1,9 @@
 //! The operations as a caller sees them: one call with its two lent tables, its record and its bytes; one result with the
 //! answer, the record given back and everything lent as it was left. What each refusal leaves is decided here.
 
-use super::formula::Formula;
+use super::formula::{Formula, Var};
 use super::limits::{self, answer, LITERALS_AT, TABLE};
+use super::reason::{reason, Reason};
 use super::run::{replay, run};
 use super::steps::step;
 use super::table::{counts, decode, encode, Counts};
@@ -16,10 +17,21 @@ pub enum Operation {
     Step = 4,
     Run = 5,
     Replay = 6,
+    Reason = 7,
 }
 
-pub const OPERATIONS: [Operation; 6] =
-    [Operation::Read, Operation::Write, Operation::Literals, Operation::Step, Operation::Run, Operation::Replay];
+pub const OPERATIONS: [Operation; 7] = [
+    Operation::Read,
+    Operation::Write,
+    Operation::Literals,
+    Operation::Step,
+    Operation::Run,
+    Operation::Replay,
+    Operation::Reason,
+];
+
+/// A reason's three values, eight bytes each: every result of `Reason` has so many bytes.
+const VALUES: usize = 24;
 
 /// The counts, and which of the two lent tables holds the formula: 0 the first, 1 the second.
 #[derive(Clone, Copy, PartialEq, Eq, Debug, Default)]
@@ -32,9 +44,9 @@ pub struct Record {
 pub struct Call {
     pub operation: Operation,
     pub record: Record,
-    /// Step: the entry; run: E.
+    /// Step: the entry; run: E; reason: the variable.
     pub a: u64,
-    /// Run: the limit.
+    /// Run: the limit; reason: E.
     pub b: u64,
     pub tables: [Vec<u16>; 2],
     /// Read: the text; write: the output buffer; run and replay: the log.
@@ -51,7 +63,7 @@ pub struct Reply {
     pub part: Vec<u16>,
 }
 
-/// The answers document 01 allows an operation.
+/// The answers the documents allow an operation.
 pub fn allowed(operation: Operation) -> &'static [u8] {
     match operation {
         Operation::Read => &[0, 1, 3, 4, 5, 6, 7, 8, 9],
@@ -60,6 +72,7 @@ pub fn allowed(operation: Operation) -> &'static [u8] {
         Operation::Step => &[0, 1, 2, 10, 11, 12],
         Operation::Run => &[1, 2, 13, 20, 21, 22, 23, 24],
         Operation::Replay => &[0, 1, 2, 10, 11, 12],
+        Operation::Reason => &[0, 1, 2, 10, 13, 20, 21],
     }
 }
 
@@ -70,7 +83,11 @@ pub fn answer_to(call: &Call) -> Reply {
         record: call.record,
         n: 0,
         tables: call.tables.clone(),
-        bytes: if matches!(call.operation, Operation::Write | Operation::Run) { call.bytes.clone() } else { Vec::new() },
+        bytes: match call.operation {
+            Operation::Write | Operation::Run => call.bytes.clone(),
+            Operation::Reason => vec![0; VALUES],
+            _ => Vec::new(),
+        },
         part: Vec::new(),
     };
     if call.operation == Operation::Read {
@@ -117,8 +134,31 @@ pub fn answer_to(call: &Call) -> Reply {
             reply.n = replayed.applied;
             leave(&mut reply, &replayed.formula, replayed.applied);
         }
+        Operation::Reason => answer_reason(call, &formula, &mut reply),
     }
     reply
+}
+
+/// Refusals: ALLOWANCE, then NOT PERMITTED for a variable not in the prefix. The formula is left as it is.
+fn answer_reason(call: &Call, formula: &Formula, reply: &mut Reply) {
+    if call.b > limits::ALLOWANCE {
+        reply.answer = answer::ALLOWANCE;
+        return;
+    }
+    leave(reply, formula, 0);
+    let variable = Var::try_from(call.a).ok();
+    match variable.and_then(|v| reason(formula, v, call.b)) {
+        None => reply.answer = answer::NOT_PERMITTED,
+        Some(given) => {
+            reply.answer = match given {
+                Reason::True => answer::TRUE,
+                Reason::False => answer::FALSE,
+                _ => answer::DONE,
+            };
+            reply.n = given.kind();
+            reply.bytes = given.values().iter().flat_map(|value| value.to_le_bytes()).collect();
+        }
+    }
 }
 
 /// Leaves a formula after some steps: each step's result stands in the other table, and the spare table ends zero.

@@ -1,4 +1,5 @@
-//! The independent model: document 01 written down a second time, in plain Rust over plain lists, with no limits inside.
+//! The independent model: document 01, and of document 02 what has landed, written down a second time, in plain Rust over
+//! plain lists, with no limits inside.
 //! Nothing here is taken from the proved code. Each file holds one subject of the document.
 
 pub mod choice;
@@ -9,6 +10,7 @@ pub mod limits;
 pub mod numeral;
 pub mod plain_choice;
 pub mod reading;
+pub mod reason;
 pub mod run;
 pub mod steps;
 pub mod table;

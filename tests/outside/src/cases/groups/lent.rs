@@ -29,7 +29,7 @@ pub fn literals(rng: &mut Rng, _: usize) -> Call {
 }
 
 pub fn one_field_wrong(rng: &mut Rng, number: usize) -> Call {
-    let operation = OPERATIONS[1 + number % 5];
+    let operation = OPERATIONS[1 + number % 6];
     let mut f = formula(rng);
     if rng.once_in(20) {
         f = wide(rng);
@@ -44,7 +44,7 @@ pub fn one_field_wrong(rng: &mut Rng, number: usize) -> Call {
 }
 
 pub fn no_formula(rng: &mut Rng, number: usize) -> Call {
-    let operation = OPERATIONS[1 + number % 5];
+    let operation = OPERATIONS[1 + number % 6];
     let f = formula(rng);
     let mut call = any_call(rng, &f, operation);
     malformed::random_table(rng, &mut call);
@@ -52,7 +52,7 @@ pub fn no_formula(rng: &mut Rng, number: usize) -> Call {
 }
 
 pub fn wrong_lengths(rng: &mut Rng, number: usize) -> Call {
-    let operation = OPERATIONS[number % 6];
+    let operation = OPERATIONS[number % 7];
     let f = formula(rng);
     let mut call = any_call(rng, &f, operation);
     if rng.coin() {
@@ -61,6 +61,9 @@ pub fn wrong_lengths(rng: &mut Rng, number: usize) -> Call {
     }
     if operation == Operation::Run && rng.coin() {
         call.a = 1001;
+    }
+    if operation == Operation::Reason && rng.coin() {
+        call.b = 1001;
     }
     spoil_lengths(rng, &mut call);
     call

@@ -2,6 +2,7 @@
 
 mod lent;
 mod read;
+mod reason;
 mod replay;
 mod run;
 mod shared;
@@ -12,6 +13,10 @@ use crate::model::face::Call;
 use crate::rng::Rng;
 use lent::{full_tables, literals, no_formula, one_field_wrong, write_buffer, wrong_lengths};
 use read::{read_babble, read_clean, read_damaged, read_edge, read_long};
+use reason::{
+    reason_every, reason_exact, reason_full, reason_heavy, reason_left, reason_limit, reason_random, reason_refused, HEAVY,
+    LIMITS, PLACES,
+};
 use replay::{replay_bound, replay_damaged, replay_long, replay_random, replay_run};
 use run::{
     run_allowance, run_exact, run_folding, run_full, run_growing, run_hard, run_interlock, run_long, run_random, run_regular,
@@ -22,11 +27,20 @@ use step::{step_bad, step_bound, step_folding, step_near, step_permitted, step_w
 pub struct Group {
     pub name: &'static str,
     pub count: usize,
+    /// So many calls in a row begin with the same random stream, to ask several things of one formula.
+    pub together: usize,
     pub make: fn(&mut Rng, usize) -> Call,
 }
 
+impl Group {
+    pub fn call(&self, seed: u64, number: usize) -> Call {
+        (self.make)(&mut Rng::of_case(seed, self.name, number / self.together), number)
+    }
+}
+
 pub fn groups() -> Vec<Group> {
-    let group = |name, count, make| Group { name, count, make };
+    let group = |name, count, make| Group { name, count, together: 1, make };
+    let several = |name, formulas, together, make| Group { name, count: formulas * together, together, make };
     vec![
         group("read: short texts at the edges", text_edges::SHORT_TEXTS.len(), read_edge as fn(&mut Rng, usize) -> Call),
         group("read: long texts at the limits", text_edges::long_texts().len(), read_long),
@@ -35,9 +49,9 @@ pub fn groups() -> Vec<Group> {
         group("read: words in any order", 800, read_babble),
         group("write: buffers long enough and not", 500, write_buffer),
         group("literals", 200, literals),
-        group("all but read: one field wrong", 1600, one_field_wrong),
-        group("all but read: random tables and counts", 300, no_formula),
-        group("all: wrong lengths", 300, wrong_lengths),
+        group("all but read: one field wrong", 1900, one_field_wrong),
+        group("all but read: random tables and counts", 360, no_formula),
+        group("all: wrong lengths", 350, wrong_lengths),
         group("step: permitted entries", 2000, step_permitted),
         group("step: near misses", 2000, step_near),
         group("step: bad entries and random ones", 500, step_bad),
@@ -63,5 +77,13 @@ pub fn groups() -> Vec<Group> {
         group("replay: long logs", 10, replay_long),
         group("replay: damaged logs", 600, replay_damaged),
         group("replay: results at the limits", BOUNDS.len(), replay_bound),
+        several("reason: every variable of small formulas", 200, PLACES, reason_every as fn(&mut Rng, usize) -> Call),
+        group("reason: random formulas", 500, reason_random),
+        group("reason: what runs leave", 500, reason_left),
+        group("reason: allowances that just do", 150, reason_exact),
+        group("reason: refusals in their order", 300, reason_refused),
+        group("reason: results at the limits", LIMITS * 2, reason_limit),
+        group("reason: results far larger than a table, or folded", HEAVY, reason_heavy),
+        group("reason: full tables", 12, reason_full),
     ]
 }

@@ -54,6 +54,11 @@ pub fn any_call(rng: &mut Rng, f: &Formula, operation: Operation) -> Call {
                 call.bytes = step_entry(rng, f).bytes().to_vec();
             }
         }
+        Operation::Reason => {
+            // Now and then one that is not there: MALFORMED comes before NOT PERMITTED.
+            call.a = if f.prefix.is_empty() || rng.once_in(6) { rng.below(1100) as u64 } else { rng.pick(&f.prefix).var as u64 };
+            call.b = if rng.once_in(6) { 1001 } else { allowance(rng) };
+        }
     }
     call
 }
