@@ -2,19 +2,20 @@
 use rimhlada::Counts;
 use shows::say;
 
-// A literal, after a space.
 fn show_literal(l: u16) {
-    say(b" ");
     if l % 2 == 1 {
         say(b"-");
     }
     io::print_decimal(1, (l / 2) as u64);
 }
 
-// The literal at place i, if that is from start on and before end.
+// The literal at place i, if that is from start on and before end; after a space, if it is not the first.
 fn show_within(l: u16, i: usize, start: usize, end: usize) {
     if start <= i {
         if i < end {
+            if start < i {
+                say(b" ");
+            }
             show_literal(l);
         }
     }

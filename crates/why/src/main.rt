@@ -1,14 +1,17 @@
-// The program: a formula in QDIMACS on standard input, a run as in `prep`, and then a sentence for each variable that is left, or for the one that
-// the first argument names (0, as no argument: for each). The second argument is the allowance, 0 if there is none. What is refused in
-// reading is printed as `r`, number and offset.
+// The program: a formula in QDIMACS on standard input, a run as in `prep`, and then how much is left and a sentence for each variable
+// of that, or for the one that the first argument names (0, as no argument: for each). The second argument is the allowance, 0 if there
+// is none. What is refused in reading is printed as `r`, number and offset.
 mod arguments;
 mod clauses;
+mod entries;
+mod prefix;
 mod sentences;
 
 use arguments::number_at;
-use clauses::wide;
+use prefix::variable_at;
 use rimhlada::Counts;
 use rimhlada::Reading;
+use sentences::show_left;
 use sentences::show_reason;
 use shows::say;
 
@@ -36,17 +39,6 @@ fn ask(first: &mut [u16; 11261], second: &mut [u16; 11261], c: Counts, v: usize,
     show_reason(first, second, c, v, allowance, answer);
 }
 
-// The variable at place i of the prefix.
-fn variable_at(first: &[u16; 11261], second: &[u16; 11261], c: Counts, i: usize) -> usize {
-    if 1022 < i {
-        return 0;
-    }
-    if c.second {
-        return wide(second[i]) / 2;
-    }
-    wide(first[i]) / 2
-}
-
 // Each variable, from the left.
 fn ask_all(first: &mut [u16; 11261], second: &mut [u16; 11261], c: Counts, allowance: usize) {
     let n = c.variables;
@@ -72,6 +64,7 @@ fn run_and_ask(
     let mut log = [0u8; 32768];
     let r = rimhlada::run(first, second, c, allowance, 8192, &mut log);
     let d = r.counts;
+    show_left(d);
     if v == 0 {
         ask_all(first, second, d, allowance);
         return;
