@@ -16,7 +16,7 @@ pub fn show_left(c: Counts) {
     number(c.variables);
     say(b", clauses ");
     number(c.clauses);
-    say(b" (the first is clause 0), literals ");
+    say(b" (counted from 0), literals ");
     number(c.literals);
     say(b"; the weight is the sum of the three.\n");
 }
