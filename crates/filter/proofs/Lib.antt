@@ -1,2 +1,1 @@
-pub mod BitLaws
 pub mod FilterLaws

@@ -42,7 +42,7 @@ tidy-same p c h =
     ∙ ap kept (reduce-same p c (reduced-of p c h)))
 
 -- in a list of distinct clauses none is there before
-distinct-new : (cs : List (List ℕ)) (c : List ℕ) (ds : List (List ℕ)) → distinct (cs ++ (c ∷ ds)) ≡ true → anyOf (same c) cs ≡ false
+pub distinct-new : (cs : List (List ℕ)) (c : List ℕ) (ds : List (List ℕ)) → distinct (cs ++ (c ∷ ds)) ≡ true → anyOf (same c) cs ≡ false
 unfolding distinct anyOf
 distinct-new [] c ds h = refl
 distinct-new (b ∷ cs) c ds h =

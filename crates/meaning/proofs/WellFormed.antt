@@ -140,7 +140,7 @@ reduce-tidy p c good b no-both =
     d = reduce p (ascending c)
 
 -- Distinct ---------------------------------------------------------------------------------------------------
-distinct-more : (cs : List (List ℕ)) (c : List ℕ) → distinct cs ≡ true → anyOf (same c) cs ≡ false → distinct (cs ++ (c ∷ [])) ≡ true
+pub distinct-more : (cs : List (List ℕ)) (c : List ℕ) → distinct cs ≡ true → anyOf (same c) cs ≡ false → distinct (cs ++ (c ∷ [])) ≡ true
 unfolding distinct anyOf
 distinct-more [] c h n = refl
 distinct-more (b ∷ cs) c h n =

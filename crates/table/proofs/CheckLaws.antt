@@ -1,11 +1,11 @@
 -- The loops and tests of src/check.rt: variables that ascend, clauses by ranks, clauses that differ.
 -- Assumes nothing.
 use Prim.Native.Nat.{ℕ, suc, _+_, _-_, _/_, _≤_, _<_}
-use mathlib.Core.Path.{_≡_, refl, sym, ap, _∙_, fun-ext}
+use mathlib.Core.Path.{_≡_, refl, sym, ap, _∙_, subst, fun-ext}
 use mathlib.Core.Bool.{Bool, true, false, _&&_, not}
 use mathlib.Core.List.{List, [], _∷_}
-use lib.ListN.{length, getD, drop, length-drop, drop-of-length-le}
-use lib.Seq.{drop-cons}
+use lib.ListN.{length, getD, take, drop, length-drop}
+use lib.Seq.{drop-cons, take-suc, take-all, split-at}
 use lib.Dec.{eqb, ltb, leb}
 use borrow.Author.Tests.{lt-ltb, le-ltb, ltb-true, le-leb, lt-leb, leb-true}
 use native.Mathlib.Omega.{arith}
@@ -13,11 +13,15 @@ use native.Mathlib.Numerals.{add-one}
 use Rattle.meaning.specs.Lists.{allOf, anyOf, same}
 use Rattle.meaning.specs.Formula.{var, mentions}
 use Rattle.meaning.specs.WellFormed.{ascends, bound, tidyClause, goodPrefix, distinct}
+use Rattle.stamps.specs.Stamp.{stamped, withStamp}
 use Rattle.table.specs.Ranks.{ranksOf, rankAt, small, lastBy, staysBy, goodEntries}
 use Rattle.table.specs.Layout.{ranked}
 use Rattle.meaning.proofs.Basics.{by-cases, iff, clash, false-of, and-l, and-r, and-i}
 use Rattle.meaning.proofs.Lists.{all-le}
 use Rattle.meaning.proofs.Prefix.{mentioned-all}
+use Rattle.meaning.proofs.WellFormed.{distinct-more}
+use Rattle.meaning.proofs.Again.{distinct-new}
+use Rattle.stamps.proofs.StampLaws.{every-next}
 use Rattle.table.proofs.RankLaws.{rank-at, rank-there}
 use Rattle.table.proofs.ReduceLaws.{reduced-is}
 
@@ -119,21 +123,31 @@ module _ (p : List ℕ) (g : goodEntries p ≡ true) where
         rw (a, ← ranked-bound c, ← e, b)
         (q ∙ ap (λ (x : List ℕ). allOf (staysBy x (lastBy x 0 c)) c) e ∙ reduced-is p prefix-good c (ranked-small-all ranks c b))
 
--- Clauses that differ -----------------------------------------------------------------------------------------
-module _ (cs : List (List ℕ)) (i : ℕ) (inv : distinct cs ≡ distinct (drop i cs)) (h : i < length cs) (r : Bool) (q : r ≡ anyOf (same (getD cs i [])) (drop (i + 1) cs)) where
-  step : distinct cs ≡ (not r && distinct (drop (i + 1) cs))
-  unfolding distinct
-  step =
-      inv
-      ∙ ap distinct (drop-cons cs i [] h ∙ ap (λ (n : ℕ). getD cs i [] ∷ drop n cs) (sym (add-one i)))
-      ∙ ap (λ (b : Bool). not b && distinct (drop (i + 1) cs)) (sym q)
+-- Clauses that differ, each from those before it ---------------------------------------------------------------
+-- the first i clauses are distinct, and their stamps are in the filter
+pub record Apart (cs : List (List ℕ)) (i : ℕ) (f : List ℕ) : Type 0 where
+  pub differ : distinct (take i cs) ≡ true
+  pub every : allOf (stamped f) (take i cs) ≡ true
 
-  pub differ-fails : r ≡ true → false ≡ distinct cs
-  differ-fails e = sym (step ∙ rw e)
+pub apart-none : (cs : List (List ℕ)) (f : List ℕ) → Apart cs 0 f
+unfolding distinct allOf
+apart-none cs f = record { differ = refl; every = refl }
 
-  pub differ-turn : r ≡ false → distinct cs ≡ distinct (drop (i + 1) cs)
-  differ-turn e = step ∙ rw e
+module _ (cs : List (List ℕ)) (i : ℕ) (h : i < length cs) (r : Bool) (q : r ≡ anyOf (same (getD cs i [])) (take i cs)) where
+  -- the next clause equals one of them
+  pub apart-fails : r ≡ true → false ≡ distinct cs
+  apart-fails e =
+      sym
+      (false-of (distinct cs)
+      (λ d. clash (sym q ∙ e) (distinct-new (take i cs) (getD cs i []) (drop (suc i) cs) (subst (λ (x : List (List ℕ)). distinct x ≡ true) (split-at cs i [] h) d))))
 
-pub differ-end : (cs : List (List ℕ)) (i : ℕ) → distinct cs ≡ distinct (drop i cs) → length cs ≤ i → true ≡ distinct cs
-unfolding distinct
-differ-end cs i inv h = sym (inv ∙ rw (drop-of-length-le cs {i = i} h))
+  -- it equals none
+  pub apart-next : r ≡ false → (f f′ : List ℕ) → 0 < length f → f′ ≡ withStamp f (getD cs i []) → Apart cs i f → Apart cs (i + 1) f′
+  apart-next e f f′ some k a =
+      record {
+        differ = rw (add-one i, take-suc cs i [] h) (distinct-more (take i cs) (getD cs i []) (a .differ) (sym q ∙ e));
+        every = rw k (every-next f (getD cs i []) some cs i h refl (a .every));
+      }
+
+pub apart-all : (cs : List (List ℕ)) (i : ℕ) (f : List ℕ) → Apart cs i f → length cs ≤ i → true ≡ distinct cs
+apart-all cs i f a h = sym (rw (take-all i cs h) at (a .differ))

@@ -1,13 +1,13 @@
 -- Loops over a list from the left: at index i, what is left of the list decides the answer b. For each test the turn, the early
--- answer and the end; for a number that is computed from all elements the turn and the end.
+-- answer and the end.
 -- Assumes nothing.
 use Prim.Native.Nat.{ℕ, zero, suc, _+_, _≤_, _<_}
 use mathlib.Core.Path.{_≡_, sym, _∙_}
 use mathlib.Core.Bool.{Bool, true, false}
-use mathlib.Core.List.{List, [], _∷_, foldl}
+use mathlib.Core.List.{List, [], _∷_}
 use native.Mathlib.Nat.{not-suc-le-zero, le-of-suc-le-suc}
-use lib.ListN.{length, getD, drop, drop-of-length-le}
-use lib.Seq.{drop-cons}
+use lib.ListN.{length, getD, take, drop, drop-of-length-le}
+use lib.Seq.{drop-cons, getD-take, length-take-le}
 use native.Mathlib.Numerals.{add-one}
 use Rattle.meaning.specs.Lists.{anyOf, allOf}
 use Rattle.meaning.proofs.Basics.{and-l, and-r}
@@ -40,13 +40,18 @@ module _ {A : Type 0} (f : A → Bool) (d : A) (s : List A) (i : ℕ) where
     unfolding allOf
     all-end h = sym (inv ∙ rw (drop-of-length-le s {i = i} h))
 
--- h is computed so far, and b of it and the elements that are left
-module _ {A : Type 0} (f : ℕ → A → ℕ) (d : A) (s : List A) (i h : ℕ) {b : ℕ} (inv : b ≡ foldl f h (drop i s)) where
-  pub fold-turn : i < length s → b ≡ foldl f (f h (getD s i d)) (drop (i + 1) s)
-  fold-turn k = inv ∙ rw (add-one, drop-cons s i d)
+-- among the first n elements only
+module _ {A : Type 0} (f : A → Bool) (d : A) (s : List A) (n : ℕ) (within : n ≤ length s) (i : ℕ) {b : Bool} (inv : b ≡ anyOf f (drop i (take n s))) where
+  pub first-found : i < n → f (getD s i d) ≡ true → true ≡ b
+  first-found h e =
+      any-found f d (take n s) i inv (rw (length-take-le n s within) h) (rw (getD-take n s i d h) e)
 
-  pub fold-end : length s ≤ i → h ≡ b
-  fold-end k = sym (inv ∙ rw (drop-of-length-le s {i = i} k))
+  pub first-turn : i < n → f (getD s i d) ≡ false → b ≡ anyOf f (drop (i + 1) (take n s))
+  first-turn h e =
+      any-turn f d (take n s) i inv (rw (length-take-le n s within) h) (rw (getD-take n s i d h) e)
+
+  pub first-end : n ≤ i → false ≡ b
+  first-end h = any-end f d (take n s) i inv (rw (length-take-le n s within) h)
 
 -- what all pass, each passes
 pub all-getD : {A : Type 0} (f : A → Bool) (d : A) (s : List A) (i : ℕ) → allOf f s ≡ true → i < length s → f (getD s i d) ≡ true

@@ -1,12 +1,13 @@
 // Whether a table that comes from outside holds a well formed formula: the layout, the prefix, each clause, all clauses.
 ghost use mathlib.Core.Path.{_≡_};
-ghost use Prim.Native.Nat.{ℕ};
+ghost use Prim.Native.Nat.{ℕ, _<_};
 ghost use mathlib.Core.Bool.{true, _&&_};
-ghost use mathlib.Core.List.{List};
-ghost use lib.ListN.{length};
-ghost use Rattle.meaning.specs.Lists.{allOf};
+ghost use mathlib.Core.List.{List, []};
+ghost use lib.ListN.{length, getD, take};
+ghost use Rattle.meaning.specs.Lists.{allOf, anyOf, same};
 ghost use Rattle.meaning.specs.Formula.{Formula};
 ghost use Rattle.meaning.specs.WellFormed.{ascends, tidyClause, distinct};
+ghost use Rattle.stamps.specs.Stamp.{stamped, withStamp};
 ghost use Rattle.table.specs.Table.{Holds, Held};
 ghost use Rattle.table.specs.Ranks.{ranksOf, goodEntries};
 ghost use Rattle.table.specs.Layout.{ranked};
@@ -14,10 +15,11 @@ ghost use Rattle.table.specs.Check.{goodTable};
 use crate::Counts;
 use crate::layout::layout_ok;
 use crate::parts::clause_at;
-use crate::parts::is_after;
+use crate::parts::is_before;
 use crate::ranks::rank_prefix;
 use crate::reduce::all_stay;
 use crate::reduce::rank_of;
+use stamps::stamp;
 
 // Whether the variables of a clause ascend.
 fn rises(clause: &[u16]) -> bool
@@ -92,18 +94,34 @@ fn all_tidy(t: &[u16], c: Counts, ranks: &[u16]) -> bool
     true
 }
 
-// Whether no clause of the table stands there twice.
+// Whether clause i equals one before it. The filter has the stamps of those before it, so they are looked through only where the
+// clause's own stamp is there. Its stamp is put in.
+fn is_repeated(t: &[u16], c: Counts, i: usize, filter: &mut [u64]) -> bool
+    requires { ⌜ Held (now t) c ⌝ }
+    requires { ⌜ (i < c .clauses) × (length (now filter) ≡ 512) ⌝ }
+    requires { ⌜ ((φ : Formula) → Holds φ (now t) c → allOf (stamped (now filter)) (take i (φ .clauses)) ≡ true) ⌝ }
+    ensures { λ r. ⌜ ((φ : Formula) → Holds φ (now (t .entry)) c → r ≡ anyOf (same (getD (φ .clauses) i [])) (take i (φ .clauses))) ⌝ }
+    ensures { λ _. ⌜ ((φ : Formula) → Holds φ (now (t .entry)) c → now (filter .exit) ≡ withStamp (now (filter .entry)) (getD (φ .clauses) i [])) ⌝ }
+{
+    let clause = clause_at(t, c, i);
+    if stamp(filter, clause) {
+        return is_before(t, c, clause, i);
+    }
+    false
+}
+
+// Whether no clause of the table stands there twice. With 2,047 clauses and 32,768 bits, few have to be looked for.
 fn all_differ(t: &[u16], c: Counts) -> bool
     requires { ⌜ Held (now t) c ⌝ }
     ensures { λ r. ⌜ ((φ : Formula) → Holds φ (now (t .entry)) c → r ≡ distinct (φ .clauses)) ⌝ }
 {
+    let mut filter = [0u64; 512];
     let mut i = 0;
     while i < c.clauses {
-        let next = i + 1;
-        if is_after(t, c, clause_at(t, c, i), next) {
+        if is_repeated(t, c, i, &mut filter) {
             return false;
         }
-        i = next;
+        i += 1;
     }
     true
 }

@@ -2,7 +2,7 @@
 ghost use mathlib.Core.Path.{_≡_};
 ghost use Prim.Native.Nat.{_+_, _≤_, _<_};
 ghost use mathlib.Core.List.{[]};
-ghost use lib.ListN.{getD, drop};
+ghost use lib.ListN.{getD, take};
 ghost use Rattle.meaning.specs.Lists.{anyOf, same};
 ghost use Rattle.meaning.specs.Formula.{Formula};
 ghost use Rattle.table.specs.Table.{startOf, Holds, Held};
@@ -34,14 +34,14 @@ pub fn clause_at(t: &[u16], c: Counts, i: usize) -> &[u16]
     &t[start..end]
 }
 
-// Whether a clause equal to this one is in the table, from clause `from` on.
-pub fn is_after(t: &[u16], c: Counts, clause: &[u16], from: usize) -> bool
+// Whether a clause equal to this one is among the first `until` of the table.
+pub fn is_before(t: &[u16], c: Counts, clause: &[u16], until: usize) -> bool
     requires { ⌜ Held (now t) c ⌝ }
-    requires { ⌜ from ≤ c .clauses ⌝ }
-    ensures { λ r. ⌜ ((φ : Formula) → Holds φ (now (t .entry)) c → r ≡ anyOf (same (now (clause .entry))) (drop from (φ .clauses))) ⌝ }
+    requires { ⌜ until ≤ c .clauses ⌝ }
+    ensures { λ r. ⌜ ((φ : Formula) → Holds φ (now (t .entry)) c → r ≡ anyOf (same (now (clause .entry))) (take until (φ .clauses))) ⌝ }
 {
-    let mut i = from;
-    while i < c.clauses {
+    let mut i = 0;
+    while i < until {
         if equal(clause, clause_at(t, c, i)) {
             return true;
         }
@@ -55,5 +55,5 @@ pub fn is_present(t: &[u16], c: Counts, clause: &[u16]) -> bool
     requires { ⌜ Held (now t) c ⌝ }
     ensures { λ r. ⌜ ((φ : Formula) → Holds φ (now (t .entry)) c → r ≡ anyOf (same (now (clause .entry))) (φ .clauses)) ⌝ }
 {
-    is_after(t, c, clause, 0)
+    is_before(t, c, clause, c.clauses)
 }

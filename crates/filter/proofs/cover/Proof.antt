@@ -27,7 +27,8 @@ clause-at-requires c κs = (c .before .before .before .before .before .before .p
 stamp-requires : tie.Need-stamp-requires Inv-loop μ-loop
 stamp-requires c κs =
     let l = c .before .before .before .before in
-    l .loop .inv .1 ∙ l .before .before .before .pre .1
+    let long = l .loop .inv .1 ∙ l .before .before .before .pre .1 in
+    (omega arith, omega arith)
 
 add-i : tie.Need-add-i Inv-loop μ-loop
 add-i c =

@@ -7,7 +7,7 @@ use native.Mathlib.Omega.{arith}
 use lib.ListN.{length, drop}
 use borrow.Author.Needs.{needs}
 use Rattle.marks.specs.Marks.{slots, slotOn, slotOf}
-use Rattle.table.proofs.LoopLaws.{fold-turn, fold-end}
+use Rattle.meaning.proofs.Folds.{fold-turn, fold-end}
 use Rattle.marks.proofs.slot_of.Statement.{statement}
 use Rattle.marks.proofs.slot_of.Tie as tie
 

@@ -6,10 +6,10 @@ use mathlib.Core.List.{foldl}
 use native.Mathlib.Omega.{arith}
 use lib.ListN.{length, drop}
 use borrow.Author.Needs.{needs}
-use Rattle.table.proofs.LoopLaws.{fold-turn, fold-end}
-use Rattle.filter.specs.Filter.{hashOn, hashOf}
-use Rattle.filter.proofs.hash_of.Statement.{statement}
-use Rattle.filter.proofs.hash_of.Tie as tie
+use Rattle.meaning.proofs.Folds.{fold-turn, fold-end}
+use Rattle.stamps.specs.Stamp.{hashOn, hashOf}
+use Rattle.stamps.proofs.hash_of.Statement.{statement}
+use Rattle.stamps.proofs.hash_of.Tie as tie
 
 abbrev Inv-loop : tie.InvT-loop
 Inv-loop clause h₀ i₀ h i = (i ≤ length clause) × (h < 4294967296) × (hashOf clause ≡ foldl hashOn h (drop i clause))
