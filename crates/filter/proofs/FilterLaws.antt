@@ -22,18 +22,20 @@ use Rattle.table.proofs.AnswerLaws.{became-done}
 use Rattle.table.proofs.DecodeLaws.{decode-holds}
 use Rattle.filter.specs.Filter.{Covers}
 
--- Stamps --------------------------------------------------------------------------------------------------------
--- one clause more, unless it is there
-every-more : (f x : List ℕ) → length f ≡ 128 → (cs : List (List ℕ)) → allOf (stamped f) cs ≡ true → allOf (stamped (withStamp f x)) (addTidied cs (kept x)) ≡ true
-unfolding addTidied
-every-more f x long cs a = go (anyOf (same x) cs)
-  where
-    before : allOf (stamped (withStamp f x)) cs ≡ true
-    before = every-stays f x (omega arith) cs a
+-- Clauses that pass a test ------------------------------------------------------------------------------------------
+module _ (t : List ℕ → Bool) (x : List ℕ) (cs : List (List ℕ)) (a : allOf t cs ≡ true) where
+  -- one more that passes, unless it is there
+  pub all-added : t x ≡ true → allOf t (addTidied cs (kept x)) ≡ true
+  unfolding addTidied
+  all-added e = go (anyOf (same x) cs)
+    where
+      go : (b : Bool) → allOf t (cond b cs (cs ++ (x ∷ []))) ≡ true
+      go true = a
+      go false = all-snoc t cs x a e
 
-    go : (b : Bool) → allOf (stamped (withStamp f x)) (cond b cs (cs ++ (x ∷ []))) ≡ true
-    go true = before
-    go false = all-snoc (stamped (withStamp f x)) cs x before (stamp-own f x (omega arith))
+-- a filter of 128 words has one
+pub filter-some : (f : List ℕ) → length f ≡ 128 → 0 < length f
+filter-some f e = omega arith
 
 -- A filter that covers a table ------------------------------------------------------------------------------------
 -- the stamps of the first i clauses are in
@@ -67,7 +69,7 @@ module _ {φ : Formula} {t : List ℕ} {c : Counts} (h : Holds φ t c) where
 
     -- the clause is new where its stamp was missing
     pub covers-new : (b : Bool) → b ≡ stamped f x → b ≡ false → anyOf (same x) (φ .clauses) ≡ false
-    covers-new b e n = not-there f x (φ .clauses) every-is (sym e ∙ n)
+    covers-new b e n = not-there (stamped f) x (φ .clauses) every-is (sym e ∙ n)
 
     -- with its stamp, the filter covers the table after it
     pub covers-more : (s : Bool) (r : Pushed) (t′ f′ : List ℕ) → Became φ (withNewClause φ x) s r t′ → f′ ≡ withStamp f x
@@ -78,7 +80,8 @@ module _ {φ : Formula} {t : List ℕ} {c : Counts} (h : Holds φ t c) where
           long = stamp-length f x ∙ k .long;
           every =
               rw (decode-holds (withNewClause φ x) t′ d (became-done φ (withNewClause φ x) s r t′ b d q))
-              (unfold withNewClause in every-more f x (k .long) (φ .clauses) every-is);
+              (unfold withNewClause in all-added (stamped (withStamp f x)) x (φ .clauses) (every-stays f x (filter-some f (k .long)) (φ .clauses) every-is)
+              (stamp-own f x (filter-some f (k .long))));
         })
 
 -- no answer that it is done

@@ -1,1 +1,2 @@
 pub mod FilterLaws
+pub mod ApartLaws

@@ -1,17 +1,20 @@
 // Adding clauses to a table with a filter beside it. The filter has the stamps of all clauses of the table, so a clause whose stamp it
 // lacks is new, and is added without a search. With 2,047 clauses and 8,192 bits, few clauses have to be looked for all the same.
+// A filter may also have the stamps of some clauses of the table only. It then serves a clause that is none of the others.
 ghost use mathlib.Core.Path.{_≡_};
 ghost use Prim.Native.Nat.{ℕ};
-ghost use mathlib.Core.Bool.{true};
+ghost use mathlib.Core.Bool.{true, false};
 ghost use mathlib.Core.List.{List};
 ghost use lib.ListN.{length};
+ghost use Rattle.meaning.specs.Lists.{anyOf, same};
 ghost use Rattle.meaning.specs.Formula.{Formula};
 ghost use Rattle.meaning.specs.WellFormed.{goodPrefix};
 ghost use Rattle.table.specs.Table.{withNewClause, withRaw, Holds, Held};
 ghost use Rattle.table.specs.Answer.{Became};
 ghost use Rattle.table.specs.Ranks.{ranksOf};
 ghost use Rattle.table.specs.Pending.{Pends, Pended};
-ghost use Rattle.filter.specs.Filter.{Covers};
+ghost use Rattle.filter.specs.Filter.{Covers, CoversBut};
+use stamps::has_stamp;
 use stamps::stamp;
 use table::Counts;
 use table::Pending;
@@ -69,4 +72,51 @@ pub fn close_filtered(
     let n = p.size;
     let m = reduce_in(scratch, n, ranks);
     add_filtered(t, c, &scratch[..m], filter)
+}
+
+// A clause that is none of those whose stamps may be missing: after the others, unless an equal one is there.
+pub fn add_apart(t: &mut [u16], c: Counts, clause: &[u16], filter: &[u64]) -> Pushed
+    requires { ⌜ Held (now t) c ⌝ }
+    requires { ⌜ length (now filter) ≡ 128 ⌝ }
+    ensures { λ r. ⌜ ((φ : Formula) (others : List (List ℕ)) → Holds φ (now (t .entry)) c → CoversBut others (now (t .entry)) c (now (filter .entry)) → anyOf (same (now (clause .entry))) others ≡ false → Became φ (withNewClause φ (now (clause .entry))) (c .second) r (now (t .exit))) ⌝ }
+{
+    if has_stamp(filter, clause) {
+        return add_clause(t, c, clause);
+    }
+    push_clause(t, c, clause)
+}
+
+// The clause after the others, unless an equal one is there; any of them may be equal. Its stamp goes into the filter.
+fn add_stamped(t: &mut [u16], c: Counts, clause: &[u16], filter: &mut [u64]) -> Pushed
+    requires { ⌜ Held (now t) c ⌝ }
+    requires { ⌜ length (now filter) ≡ 128 ⌝ }
+    ensures { λ r. ⌜ ((φ : Formula) → Holds φ (now (t .entry)) c → Became φ (withNewClause φ (now (clause .entry))) (c .second) r (now (t .exit))) ⌝ }
+    ensures { λ r. ⌜ ((others : List (List ℕ)) (d : Counts) → CoversBut others (now (t .entry)) c (now (filter .entry)) → r ≡ Pushed.Done d → CoversBut others (now (t .exit)) d (now (filter .exit))) ⌝ }
+{
+    stamp(filter, clause);
+    add_clause(t, c, clause)
+}
+
+// The same for a raw clause that is complete: it is tidied by the ranks of the prefix.
+pub fn close_stamped(
+    t: &mut [u16],
+    c: Counts,
+    scratch: &mut [u16],
+    p: Pending,
+    ranks: &[u16],
+    filter: &mut [u64],
+) -> Pushed
+    requires { ⌜ Held (now t) c ⌝ }
+    requires { ⌜ Pended (now scratch) p ⌝ }
+    requires { ⌜ length (now ranks) ≡ 1024 ⌝ }
+    requires { ⌜ length (now filter) ≡ 128 ⌝ }
+    ensures { λ r. ⌜ ((φ : Formula) (raw : List ℕ) → Holds φ (now (t .entry)) c → goodPrefix (φ .prefix) ≡ true → now (ranks .entry) ≡ ranksOf (φ .prefix) → Pends raw (now (scratch .entry)) p → Became φ (withRaw φ raw) (c .second) r (now (t .exit))) ⌝ }
+    ensures { λ r. ⌜ ((others : List (List ℕ)) (d : Counts) → CoversBut others (now (t .entry)) c (now (filter .entry)) → r ≡ Pushed.Done d → CoversBut others (now (t .exit)) d (now (filter .exit))) ⌝ }
+{
+    if p.both {
+        return Pushed::Done(c);
+    }
+    let n = p.size;
+    let m = reduce_in(scratch, n, ranks);
+    add_stamped(t, c, &scratch[..m], filter)
 }

@@ -81,12 +81,12 @@ module _ (f x : List ℕ) (some : 0 < length f) where
       rw (add-one i, take-suc cs i [] h, ← e)
       (all-snoc (stamped (withStamp f x)) (take i cs) x (every-stays (take i cs) a) stamp-own)
 
--- what is not stamped is none of the clauses
-pub not-there : (f x : List ℕ) (cs : List (List ℕ)) → allOf (stamped f) cs ≡ true → stamped f x ≡ false → anyOf (same x) cs ≡ false
+-- what fails a test is none of the clauses that pass it
+pub not-there : (t : List ℕ → Bool) (x : List ℕ) (cs : List (List ℕ)) → allOf t cs ≡ true → t x ≡ false → anyOf (same x) cs ≡ false
 unfolding allOf anyOf
-not-there f x [] a n = refl
-not-there f x (c ∷ cs) a n =
+not-there t x [] a n = refl
+not-there t x (c ∷ cs) a n =
     false-of (anyOf (same x) (c ∷ cs))
     (λ e. or-elim (same x c) (anyOf (same x) cs) e
-    (λ q. clash (and-l (stamped f c) (allOf (stamped f) cs) a) (ap (stamped f) (sym (same-path x c q)) ∙ n))
-    (λ q. clash q (not-there f x cs (and-r (stamped f c) (allOf (stamped f) cs) a) n)))
+    (λ q. clash (and-l (t c) (allOf t cs) a) (ap t (sym (same-path x c q)) ∙ n))
+    (λ q. clash q (not-there t x cs (and-r (t c) (allOf t cs) a) n)))

@@ -32,3 +32,15 @@ pub fn stamp(filter: &mut [u64], clause: &[u16]) -> bool
     filter[at] = new;
     old == new
 }
+
+// Whether the clause's stamp is in the filter.
+pub fn has_stamp(filter: &[u64], clause: &[u16]) -> bool
+    requires { ⌜ (0 < length (now filter)) × (length (now filter) ≤ 512) ⌝ }
+    ensures { λ r. ⌜ r ≡ stamped (now (filter .entry)) (now (clause .entry)) ⌝ }
+{
+    let words = filter.len() as u64;
+    let p = hash_of(clause) * words;
+    let at = (p / 4294967296) as usize;
+    let old = filter[at];
+    old == old | (1 << (p / 67108864 % 64) | 1 << (p / 1048576 % 64))
+}

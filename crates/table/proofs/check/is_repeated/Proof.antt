@@ -39,7 +39,7 @@ returns-2 c =
     let m = c .before .before .before in
     let a = m .before .before in
     let s = a .before .before .before in
-    (λ φ h. sym (not-there _ _ (take (s .args .i) (φ .clauses)) (s .pre .1 .1 φ h) (ap (stamped _) (sym (a .clause-at .ensures φ h)) ∙ sym (m .stamp .ensures .0) ∙ c .if1 .left)), λ φ h. m .stamp .ensures .1 ∙ ap (withStamp _) (a .clause-at .ensures φ h))
+    (λ φ h. sym (not-there (stamped _) _ (take (s .args .i) (φ .clauses)) (s .pre .1 .1 φ h) (ap (stamped _) (sym (a .clause-at .ensures φ h)) ∙ sym (m .stamp .ensures .0) ∙ c .if1 .left)), λ φ h. m .stamp .ensures .1 ∙ ap (withStamp _) (a .clause-at .ensures φ h))
 
 pub is-repeated-spec : {M : Type 1} → statement M
 is-repeated-spec =
