@@ -34,12 +34,15 @@ pub reduce-same : (p c : List ℕ) → reduced p c ≡ true → reduce p c ≡ c
 unfolding reduced reduce
 reduce-same p c h = keep-all (stays p c) c h
 
-pub tidy-same : (p c : List ℕ) → tidyClause p c ≡ true → tidy p c ≡ kept c
+-- neither has an ascending one that is reduced anything to tidy
+pub tidy-stays : (p c : List ℕ) → ascends c ≡ true → reduced p c ≡ true → tidy p c ≡ kept c
 unfolding tidy tidySorted
-tidy-same p c h =
-    ap (tidySorted p) (ascending-same c (ascends-of p c h))
-    ∙ (ap (λ (b : Bool). cond b dropped (kept (reduce p c))) (ascends-single c (ascends-of p c h))
-    ∙ ap kept (reduce-same p c (reduced-of p c h)))
+tidy-stays p c a r =
+    ap (tidySorted p) (ascending-same c a)
+    ∙ (ap (λ (b : Bool). cond b dropped (kept (reduce p c))) (ascends-single c a) ∙ ap kept (reduce-same p c r))
+
+pub tidy-same : (p c : List ℕ) → tidyClause p c ≡ true → tidy p c ≡ kept c
+tidy-same p c h = tidy-stays p c (ascends-of p c h) (reduced-of p c h)
 
 -- in a list of distinct clauses none is there before
 pub distinct-new : (cs : List (List ℕ)) (c : List ℕ) (ds : List (List ℕ)) → distinct (cs ++ (c ∷ ds)) ≡ true → anyOf (same c) cs ≡ false

@@ -11,6 +11,7 @@ pub mod Peel
 pub mod Tidy
 pub mod WellFormed
 pub mod Again
+pub mod TidyPrefix
 pub mod Parts
 pub mod Weight
 pub mod Verdict

@@ -1,20 +1,20 @@
 -- From the new prefix and the clauses by recipes to the result of expanding.
 -- Assumes nothing.
 use Prim.Native.Nat.{ℕ, _+_, _-_, _*_, _≤_, _<_}
-use mathlib.Core.Path.{_≡_, sym, ap, _∙_}
-use mathlib.Core.Bool.{Bool, true, _&&_}
-use mathlib.Core.List.{List, map}
+use mathlib.Core.Path.{_≡_, refl, sym, ap, _∙_}
+use mathlib.Core.Bool.{Bool, true, _&&_, not}
+use mathlib.Core.List.{List, [], _∷_, map}
 use lib.Dec.{leb}
 use lib.ListN.{length, take, drop}
 use native.Mathlib.Omega.{arith}
 use Rattle.meaning.specs.Lists.{allOf}
-use Rattle.meaning.specs.Formula.{Formula, var, plain, mentions, dropVar}
+use Rattle.meaning.specs.Formula.{Formula, var, odd, plain, mentions, dropVar}
 use Rattle.meaning.specs.Tidy.{build, tidied}
-use Rattle.meaning.specs.WellFormed.{goodPrefix, fits, maxVariables}
+use Rattle.meaning.specs.WellFormed.{goodPrefix, wellFormed, fits, maxVariables}
 use Rattle.rules.specs.Eliminate.{inner, fresh, expandWith, expandRaw}
 use Rattle.rules.specs.Entry.{expand}
 use Rattle.rules.specs.Step.{permitted, rawOf, resultOf}
-use Rattle.table.specs.Table.{Holds}
+use Rattle.table.specs.Table.{decode, Holds}
 use Rattle.table.specs.Answer.{Built}
 use Rattle.table.specs.declared.Counts.{Counts}
 use Rattle.table.specs.declared.Pushed.{Pushed}
@@ -23,12 +23,13 @@ use Rattle.permits.specs.Places.{placeOf}
 use Rattle.steps.specs.Given.{Given}
 use Rattle.steps.specs.Raws.{bare, withRaws}
 use Rattle.steps.specs.Recipe.{rawsBy}
+use Rattle.steps.specs.Left.{Shrunk}
 use Rattle.steps.specs.Copies.{existentials, withEntries, halvesBy, expandedBy}
 use Rattle.steps.specs.declared.Which.the-variants.{Near, Far}
 use Rattle.steps.specs.declared.Turn.the-variants.{Same, Drop, Copy}
 use Rattle.meaning.proofs.Basics.{clash, and-r}
 use Rattle.meaning.proofs.Lists.{all-append, all-le, all-all, all-map}
-use Rattle.meaning.proofs.Literals.{var-of-plain}
+use Rattle.meaning.proofs.Literals.{var-of-plain, odd-of-plain}
 use Rattle.meaning.proofs.Parts.{good-of, room-of, bound-all}
 use Rattle.meaning.proofs.Prefix.{forall-mentioned}
 use Rattle.rules.proofs.Fresh.{fresh-above}
@@ -36,6 +37,7 @@ use Rattle.rules.proofs.Permitted.{ExpandSays, expand-says}
 use Rattle.table.proofs.HoldLaws.{prefix-is, count-variables}
 use Rattle.permits.proofs.PlaceLaws.{entries-of, large-out}
 use Rattle.steps.proofs.BuildLaws.{raws-not, built-not, built-full, built-done, built-second, then-full, then-done}
+use Rattle.steps.proofs.RawLaws.{shrunk-more}
 use Rattle.steps.proofs.KindLaws.{numbers-in}
 use Rattle.steps.proofs.ExpandPrefix.{split-of, good-new, inner-many, inner-few}
 use Rattle.steps.proofs.ExpandClauses.{expanded-are}
@@ -71,6 +73,11 @@ module _ (v s n : ℕ) (ψ : Formula) (cs : List (List ℕ)) (b : Bool) (r : Pus
   unfolding expandedBy
   expanded-done k e q r′ t′ m = then-done ψ (rawsBy (Near s) Same (ψ .prefix) 0 cs) b r t k (λ p. halvesBy v s n p cs) e q r′ t′ m
 
+plain-even : (vs : List ℕ) → allOf (λ q. not (odd q)) (map plain vs) ≡ true
+unfolding allOf
+plain-even [] = refl
+plain-even (v ∷ vs) = rw (odd-of-plain v) (plain-even vs)
+
 -- The result --------------------------------------------------------------------------------------------------------------
 module _ {φ : Formula} {source : List ℕ} {c : Counts} {ranks : List ℕ} (g : Given φ source c ranks) (a : ℕ) where
   abbrev p : List ℕ
@@ -79,6 +86,12 @@ module _ {φ : Formula} {source : List ℕ} {c : Counts} {ranks : List ℕ} (g :
   -- what is there of the result before its clauses: the prefix
   abbrev pub front : ℕ → Formula
   front n = withEntries (bare (dropVar a p)) (map plain (fresh p n))
+
+  -- it is the source's without the universal, and existentials
+  pub expand-shrunk : wellFormed (decode source c) ≡ true → (n : ℕ) {t : List ℕ} {e : Counts} → Holds (front n) t e → Shrunk a (take (e .variables) t) (decode source c)
+  unfolding withEntries bare
+  expand-shrunk w n {t} {e} h =
+      shrunk-more (g .holds) w a (map plain (fresh p n)) (plain-even (fresh p n)) (take (e .variables) t) (prefix-is h)
 
   module _ (m n : ℕ) (place : m ≡ placeOf p a) (count : n ≡ existentials (drop m (take (c .variables) source))) where
     counted : n ≡ existentials (drop m p)

@@ -1,20 +1,20 @@
 -- From what a step starts with to its result, for the kinds that are recipes.
 -- Assumes nothing.
-use Prim.Native.Nat.{ℕ, _/_}
+use Prim.Native.Nat.{ℕ, _*_, _/_}
 use mathlib.Core.Path.{_≡_, refl, sym, ap, _∙_}
 use mathlib.Core.Bool.{Bool, true, _&&_}
 use mathlib.Core.List.{List, [], _∷_}
-use lib.ListN.{length, getD, take}
+use lib.ListN.{length, getD}
 use lib.Dec.{ltb}
 use native.Mathlib.Omega.{arith}
 use Rattle.meaning.specs.Lists.{allOf}
 use Rattle.meaning.specs.Formula.{Formula, var, opposite, mentions, rightOf}
 use Rattle.meaning.specs.Tidy.{tidied}
-use Rattle.meaning.specs.WellFormed.{goodPrefix}
+use Rattle.meaning.specs.WellFormed.{wellFormed}
 use Rattle.rules.specs.Simplify.{clauseAt, isClause, becomesTrue, unitRaw, strengthenLit, oppositePair, equalityPermitted}
 use Rattle.rules.specs.Entry.{unit, pure, subsume, strengthen, equality}
 use Rattle.rules.specs.Step.{permitted, rawOf, resultOf}
-use Rattle.table.specs.Table.{tableOf, emptyFormula, Held}
+use Rattle.table.specs.Table.{tableOf, emptyFormula, decode, Held}
 use Rattle.table.specs.Answer.{Built}
 use Rattle.table.specs.Pending.{inRange}
 use Rattle.table.specs.declared.Counts.{Counts}
@@ -24,16 +24,19 @@ use Rattle.permits.specs.declared.Strengthens.{Strengthens}
 use Rattle.permits.specs.declared.Strengthens.the-variants.{By, No}
 use Rattle.permits.specs.declared.Replacement.{Replacement}
 use Rattle.steps.specs.Recipe.{Ready, remade}
+use Rattle.steps.specs.Left.{about}
 use Rattle.steps.specs.Given.{Given, Begun}
 use Rattle.steps.specs.declared.Which.the-variants.{All, But, Without}
+use Rattle.steps.specs.declared.Turn.{Turn}
 use Rattle.steps.specs.declared.Turn.the-variants.{Same, Drop, DropAt, Replace}
-use Rattle.table.proofs.HoldLaws.{prefix-is, held}
+use Rattle.table.proofs.HoldLaws.{held}
+use Rattle.table.proofs.DecodeLaws.{decode-holds}
 use Rattle.table.proofs.RankLaws.{length-ranks}
 use Rattle.permits.proofs.PlaceLaws.{entries-of}
 use Rattle.permits.proofs.PureLaws.{pure-raw}
 use Rattle.permits.proofs.EqualLaws.{equality-raw}
-use Rattle.meaning.proofs.Basics.{by-cases, clash, and-l, and-r}
-use Rattle.meaning.proofs.Parts.{good-of}
+use Rattle.meaning.proofs.Basics.{by-cases, clash, and-l, and-r, eqb-eq}
+use Rattle.meaning.proofs.Literals.{var-opp, var-plain}
 use Rattle.steps.proofs.KindLaws.{in-range, range-opposite, range-at, remade-true, remade-but, remade-strip, remade-replace}
 
 -- What is asked of the functions below -----------------------------------------------------------------------------
@@ -41,14 +44,27 @@ module _ {source : List ℕ} {c : Counts} {target scratch ranks : List ℕ} (b :
   pub begun-held : Held source c
   begun-held = held (b .given .holds)
 
-  pub begun-good : goodPrefix (take (c .variables) source) ≡ true
-  begun-good = ap goodPrefix (prefix-is (b .given .holds)) ∙ good-of (b .formula) (b .given .well)
+  pub begun-well : wellFormed (decode source c) ≡ true
+  begun-well = ap wellFormed (decode-holds (b .formula) source c (b .given .holds)) ∙ b .given .well
 
   pub begun-ranks : length ranks ≡ 1024
   begun-ranks = ap length (b .given .ranked) ∙ length-ranks (b .formula .prefix)
 
-  pub begun-rebuild : Held source c × ((goodPrefix (take (c .variables) source) ≡ true) × ((target ≡ tableOf emptyFormula) × ((length scratch ≡ 1023) × (length ranks ≡ 1024))))
-  begun-rebuild = (begun-held, (begun-good, (b .empty, (b .room, begun-ranks))))
+  pub begun-rebuild : (t : Turn) (v : ℕ) → about t v ≡ true → Held source c × (((wellFormed (decode source c) ≡ true) × (about t v ≡ true)) × ((target ≡ tableOf emptyFormula) × ((length scratch ≡ 1023) × (length ranks ≡ 1024))))
+  begun-rebuild t v a = (begun-held, ((begun-well, a), (b .empty, (b .room, begun-ranks))))
+
+-- what the turns are about
+pub about-flip : (l o v : ℕ) → o ≡ opposite l → v ≡ l / 2 → about (Drop o) v ≡ true
+unfolding about var
+about-flip l o v e d = eqb-eq (ap (λ (n : ℕ). n / 2) e ∙ (unfold var in var-opp l) ∙ sym d)
+
+pub about-plain : (v : ℕ) → about (Drop (2 * v)) v ≡ true
+unfolding about
+about-plain v = eqb-eq (var-plain v)
+
+pub about-old : (l m v : ℕ) → v ≡ l / 2 → about (Replace l m) v ≡ true
+unfolding about var
+about-old l m v d = eqb-eq (sym d)
 
 -- the ranks are those of the formula's prefix
 pub given-ready : {φ : Formula} {source : List ℕ} {c : Counts} {ranks : List ℕ} → Given φ source c ranks → Ready (φ .prefix) ranks

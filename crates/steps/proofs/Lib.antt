@@ -3,6 +3,7 @@ pub mod PrefixLaws
 pub mod BuildLaws
 pub mod RawLaws
 pub mod KindLaws
+pub mod LeftLaws
 pub mod GivenLaws
 pub mod PairLaws
 pub mod CopyLaws

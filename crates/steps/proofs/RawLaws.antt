@@ -2,17 +2,17 @@
 -- Assumes nothing.
 use Prim.Native.Nat.{ℕ, _+_, _≤_, _<_}
 use mathlib.Core.Path.{_≡_, refl, sym, ap, _∙_, subst}
-use mathlib.Core.Bool.{Bool, true, false}
-use mathlib.Core.List.{List, [], _++_}
+use mathlib.Core.Bool.{Bool, true, false, not}
+use mathlib.Core.List.{List, [], _++_, append-nil}
 use lib.ListN.{length, getD, take, drop, drop-of-length-le}
 use lib.Seq.{drop-cons}
 use native.Mathlib.Numerals.{add-one}
 use lib.Dec.{leb}
 use Rattle.meaning.specs.Lists.{allOf}
-use Rattle.meaning.specs.Formula.{Formula, var, dropVar}
-use Rattle.meaning.specs.Tidy.{buildOn, build, tidied}
-use Rattle.meaning.specs.WellFormed.{goodPrefix, maxVariables}
-use Rattle.table.specs.Table.{withRaw, Holds}
+use Rattle.meaning.specs.Formula.{Formula, var, odd, dropVar}
+use Rattle.meaning.specs.Tidy.{kept, tidy, buildOn, build, tidied}
+use Rattle.meaning.specs.WellFormed.{goodPrefix, wellFormed, maxVariables}
+use Rattle.table.specs.Table.{decode, withNewClause, withRaw, Holds}
 use Rattle.table.specs.Answer.{Became, Built}
 use Rattle.table.specs.Ranks.{ranksOf, goodEntries, Ranked}
 use Rattle.table.specs.declared.Counts.{Counts}
@@ -20,12 +20,14 @@ use Rattle.table.specs.declared.Pushed.{Pushed}
 use Rattle.table.specs.declared.Pushed.the-variants.{Done, Full}
 use Rattle.steps.specs.Raws.{bare, withRaws}
 use Rattle.steps.specs.Recipe.{Ready, taken, fed, rawBy, rawsBy, remade}
+use Rattle.steps.specs.Left.{Shrunk}
 use Rattle.steps.specs.declared.Which.{Which}
 use Rattle.steps.specs.declared.Turn.{Turn}
 use Rattle.meaning.proofs.Basics.{and-i}
-use Rattle.meaning.proofs.Parts.{room-of}
+use Rattle.meaning.proofs.Parts.{good-of, room-of}
 use Rattle.rules.proofs.Good.{good-drop}
 use Rattle.table.proofs.HoldLaws.{prefix-is}
+use Rattle.table.proofs.DecodeLaws.{decode-holds}
 use Rattle.permits.proofs.PlaceLaws.{good-entries}
 use Rattle.steps.proofs.BuildLaws.{built-of, built-there, built-done, Going, going-next, going-full, going-end}
 
@@ -42,6 +44,11 @@ module _ {ψ : Formula} {t ranks : List ℕ} {d : Counts} (h : Holds ψ t d) (r 
   ready-as {χ} {t′} {e} k q = subst (λ (p : List ℕ). Ready p ranks) (prefix-is h ∙ sym q ∙ sym (prefix-is k)) r
 
 -- One clause ------------------------------------------------------------------------------------------------------
+-- what becomes of it, over the prefix in the table
+pub fed-here : (u : Turn) {ψ : Formula} {t : List ℕ} {d : Counts} → Holds ψ t d → (i : ℕ) (c : List ℕ) (s : Bool) (r : Pushed) (t′ : List ℕ)
+    → Became ψ (withRaw ψ (fed u (take (d .variables) t) i c)) s r t′ → Became ψ (withRaw ψ (fed u (ψ .prefix) i c)) s r t′
+fed-here u {ψ} {t} {d} h i c s r t′ k = subst (λ (p : List ℕ). Became ψ (withRaw ψ (fed u p i c)) s r t′) (prefix-is h) k
+
 module _ (w : Which) (u : Turn) {ψ : Formula} {t : List ℕ} {d : Counts} (h : Holds ψ t d) (i : ℕ) (c : List ℕ) (b : Bool) (is : b ≡ taken w (take (d .variables) t) i c) where
   taken-is : taken w (ψ .prefix) i c ≡ b
   taken-is = ap (λ (p : List ℕ). taken w p i c) (sym (prefix-is h)) ∙ sym is
@@ -50,10 +57,20 @@ module _ (w : Which) (u : Turn) {ψ : Formula} {t : List ℕ} {d : Counts} (h : 
   unfolding rawBy withRaws buildOn
   one-left n = rw (taken-is, n) (built-there h)
 
-  pub one-taken : b ≡ true → (r : Pushed) (t′ : List ℕ) → Became ψ (withRaw ψ (fed u (take (d .variables) t) i c)) (d .second) r t′ → Built (withRaws ψ (rawBy w u (ψ .prefix) i c)) (d .second) r t′
+  pub one-changed : b ≡ true → (r : Pushed) (t′ : List ℕ) → Became ψ (withRaw ψ (fed u (ψ .prefix) i c)) (d .second) r t′ → Built (withRaws ψ (rawBy w u (ψ .prefix) i c)) (d .second) r t′
   unfolding rawBy withRaws buildOn withRaw
-  one-taken n r t′ k =
-      rw (taken-is, n) (subst (λ (x : List ℕ). Built (withRaw ψ x) (d .second) r t′) (ap (λ (p : List ℕ). fed u p i c) (prefix-is h)) (built-of k))
+  one-changed n r t′ k = rw (taken-is, n) (built-of k)
+
+  pub one-taken : b ≡ true → (r : Pushed) (t′ : List ℕ) → Became ψ (withRaw ψ (fed u (take (d .variables) t) i c)) (d .second) r t′ → Built (withRaws ψ (rawBy w u (ψ .prefix) i c)) (d .second) r t′
+  one-taken n r t′ k = one-changed n r t′ (fed-here u h i c (d .second) r t′ k)
+
+  -- a clause that lasts comes as it stands
+  stands : tidy (ψ .prefix) (fed u (ψ .prefix) i c) ≡ kept c → withNewClause ψ c ≡ withRaw ψ (fed u (ψ .prefix) i c)
+  unfolding withRaw withNewClause
+  stands e = rw e
+
+  pub one-stays : b ≡ true → tidy (ψ .prefix) (fed u (ψ .prefix) i c) ≡ kept c → (r : Pushed) (t′ : List ℕ) → Became ψ (withNewClause ψ c) (d .second) r t′ → Built (withRaws ψ (rawBy w u (ψ .prefix) i c)) (d .second) r t′
+  one-stays n e r t′ k = one-changed n r t′ (subst (λ (χ : Formula). Became ψ χ (d .second) r t′) (stands e) k)
 
 -- All clauses -----------------------------------------------------------------------------------------------------
 module _ (w : Which) (u : Turn) (ψ : Formula) (cs : List (List ℕ)) (b : Bool) (t : List ℕ) (e : Counts) (i : ℕ)
@@ -96,3 +113,26 @@ remade-built w u v φ s b r t k e = rw e at k
 pub ready-after : {ψ : Formula} {t ranks : List ℕ} {d : Counts} → Holds ψ t d → Ready (take (d .variables) t) ranks → (raws : List (List ℕ)) (s : Bool) (r : Pushed) (t′ : List ℕ) → Built (withRaws ψ raws) s r t′ → (e : Counts) → r ≡ Done e → Ready (take (e .variables) t′) ranks
 unfolding withRaws
 ready-after {ψ} {t} {ranks} {d} h q raws s r t′ k e p = ready-as h q (built-done (withRaws ψ raws) s r t′ k e p) refl
+
+-- A prefix that is the source's without v --------------------------------------------------------------------------------
+-- the same prefix elsewhere
+pub shrunk-as : {v : ℕ} {φ ψ : Formula} {t : List ℕ} {d : Counts} → Holds ψ t d → Shrunk v (take (d .variables) t) φ → (p : List ℕ) → p ≡ ψ .prefix → Shrunk v p φ
+shrunk-as {v} {φ} {ψ} {t} {d} h s p e = subst (λ (x : List ℕ). Shrunk v x φ) (prefix-is h ∙ sym e) s
+
+pub shrunk-after : {v : ℕ} {φ ψ : Formula} {t : List ℕ} {d : Counts} → Holds ψ t d → Shrunk v (take (d .variables) t) φ → (raws : List (List ℕ)) (s : Bool) (r : Pushed) (t′ : List ℕ) → Built (withRaws ψ raws) s r t′ → (e : Counts) → r ≡ Done e → Shrunk v (take (e .variables) t′) φ
+unfolding withRaws
+shrunk-after {v} {φ} {ψ} {t} {d} h q raws s r t′ k e p = shrunk-as h q (take (e .variables) t′) (prefix-is (built-done (withRaws ψ raws) s r t′ k e p))
+
+module _ {φ : Formula} {source : List ℕ} {c : Counts} (h : Holds φ source c) (w : wellFormed (decode source c) ≡ true) where
+  pub source-good : goodPrefix (take (c .variables) source) ≡ true
+  unfolding decode
+  source-good = good-of (decode source c) w
+
+  -- it is copied, and existentials come at its right end
+  pub shrunk-more : (v : ℕ) (more : List ℕ) → allOf (λ e. not (odd e)) more ≡ true → (q : List ℕ) → q ≡ dropVar v (φ .prefix) ++ more → Shrunk v q (decode source c)
+  shrunk-more v more x q e = record { well = w; more = more; prefix = e ∙ ap (λ (χ : Formula). dropVar v (χ .prefix) ++ more) (sym (decode-holds φ source c h)); exist = x }
+
+  -- it is copied
+  pub shrunk-copied : (v : ℕ) {t : List ℕ} {d : Counts} → Holds (bare (dropVar v (φ .prefix))) t d → Shrunk v (take (d .variables) t) (decode source c)
+  unfolding bare allOf
+  shrunk-copied v {t} {d} k = shrunk-more v [] refl (take (d .variables) t) (prefix-is k ∙ sym (append-nil (dropVar v (φ .prefix))))

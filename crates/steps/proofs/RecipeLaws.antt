@@ -11,7 +11,7 @@ use borrow.Author.Tests.{eq-eqb, ne-eqb, lt-ltb, le-ltb}
 use native.Mathlib.Omega.{arith}
 use native.Mathlib.Numerals.{add-one}
 use Rattle.meaning.specs.Lists.{allOf, has}
-use Rattle.meaning.specs.Formula.{var, opposite, isVar}
+use Rattle.meaning.specs.Formula.{var, opposite, isVar, mentions}
 use Rattle.rules.specs.Simplify.{replaceLit}
 use Rattle.table.specs.Ranks.{goodEntries}
 use Rattle.table.specs.Pending.{inRange, Pends}
@@ -70,6 +70,20 @@ far-both a b h k e t d = rw (← e, t, ← d)
 
 pub far-near : (a b h : Bool) → h ≡ a → h ≡ false → false ≡ (a && b)
 far-near a b h e t = rw (← e, t)
+
+-- no literal of variable v
+module _ (c : List ℕ) (v i : ℕ) (inv : mentions c v ≡ mentions (drop i c) v) where
+  pub lacks-found : i < length c → getD c i 0 / 2 ≡ v → false ≡ not (mentions c v)
+  unfolding mentions isVar var
+  lacks-found h e = ap not (any-found (isVar v) 0 c i inv h (eq-eqb (getD c i 0 / 2) v e))
+
+  pub lacks-turn : i < length c → (getD c i 0 / 2 ≡ v → ⊥) → mentions c v ≡ mentions (drop (i + 1) c) v
+  unfolding mentions isVar var
+  lacks-turn h e = any-turn (isVar v) 0 c i inv h (ne-eqb (getD c i 0 / 2) v e)
+
+  pub lacks-end : length c ≤ i → true ≡ not (mentions c v)
+  unfolding mentions
+  lacks-end h = ap not (any-end (isVar v) 0 c i inv h)
 
 -- One literal ---------------------------------------------------------------------------------------------------
 pub less-same : (l k : ℕ) → k ≡ l → 0 ≡ less l k

@@ -1,5 +1,6 @@
 pub mod Raws
 pub mod Recipe
+pub mod Left
 pub mod Given
 pub mod Pairs
 pub mod Decide

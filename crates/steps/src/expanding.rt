@@ -4,13 +4,14 @@ ghost use Prim.Native.Nat.{_≤_};
 ghost use mathlib.Core.Bool.{true, not};
 ghost use lib.ListN.{length, take};
 ghost use Rattle.meaning.specs.Formula.{Formula};
-ghost use Rattle.table.specs.Table.{Holds, Held};
+ghost use Rattle.table.specs.Table.{decode, Holds, Held};
 ghost use Rattle.table.specs.Answer.{Built};
 ghost use Rattle.rules.specs.Entry.{expand};
 ghost use Rattle.rules.specs.Step.{permitted, resultOf};
 ghost use Rattle.steps.specs.Given.{Given, Begun};
 ghost use Rattle.steps.specs.Raws.{withRaws};
 ghost use Rattle.steps.specs.Recipe.{Ready};
+ghost use Rattle.steps.specs.Left.{Shrunk};
 ghost use Rattle.steps.specs.Copies.{halvesBy, expandedBy};
 use crate::Turn;
 use crate::Which;
@@ -18,6 +19,7 @@ use crate::copies::count_inner;
 use crate::copies::push_copies;
 use crate::prefixes::copy_prefix;
 use crate::rebuilding::add_all;
+use crate::turning::add_all_turned;
 use permits::place_of;
 use table::Counts;
 use table::Pushed;
@@ -39,6 +41,7 @@ fn add_halves(
     requires { ⌜ Held (now target) d ⌝ }
     requires { ⌜ Ready (take (d .variables) (now target)) (now ranks) ⌝ }
     requires { ⌜ (length (now scratch) ≡ 1023) × (v ≤ 1023) ⌝ }
+    requires { ⌜ Shrunk v (take (d .variables) (now target)) (decode (now source) c) ⌝ }
     ensures { λ r. ⌜ ((φ ψ : Formula) → Holds φ (now (source .entry)) c → Holds ψ (now (target .entry)) d → Built (withRaws ψ (halvesBy v s n (ψ .prefix) (φ .clauses))) (d .second) r (now (target .exit))) ⌝ }
 {
     let plain = 2 * v;
@@ -48,13 +51,14 @@ fn add_halves(
         c,
         target,
         d,
+        v,
         Which::Far(s, negated),
         Turn::Drop(plain),
         scratch,
         ranks,
     ) {
         Pushed::Done(e) => {
-            add_all(
+            add_all_turned(
                 source,
                 c,
                 target,
@@ -85,6 +89,7 @@ fn add_expanded(
     requires { ⌜ Held (now target) d ⌝ }
     requires { ⌜ Ready (take (d .variables) (now target)) (now ranks) ⌝ }
     requires { ⌜ (length (now scratch) ≡ 1023) × (v ≤ 1023) ⌝ }
+    requires { ⌜ Shrunk v (take (d .variables) (now target)) (decode (now source) c) ⌝ }
     ensures { λ r. ⌜ ((φ ψ : Formula) → Holds φ (now (source .entry)) c → Holds ψ (now (target .entry)) d → Built (withRaws ψ (expandedBy v s n (ψ .prefix) (φ .clauses))) (d .second) r (now (target .exit))) ⌝ }
 {
     match add_all(
@@ -92,6 +97,7 @@ fn add_expanded(
         c,
         target,
         d,
+        v,
         Which::Near(s),
         Turn::Same,
         scratch,

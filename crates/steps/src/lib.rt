@@ -7,6 +7,7 @@ mod prefixes;
 mod rebuilding;
 mod recipes;
 mod resolving;
+mod turning;
 
 pub use deciding::is_permitted;
 pub use expanding::expand_into;

@@ -1,22 +1,28 @@
-// The loop over the source's clauses: what becomes of each by a recipe is tidied and added to the target. A filter goes with the
-// target, so that hardly any clause has to be looked for there.
+// The pass over the source's clauses. A clause that is left as it was is tidy and differs from all others of the source, so it is added
+// as it stands: it can only equal a clause that was there at the start or one that changed, and a filter has the stamps of these.
+// What becomes of a clause that changes is tidied, and looked for among all clauses of the target; such clauses are few.
 ghost use mathlib.Core.Path.{_≡_};
+ghost use Prim.Native.Nat.{ℕ};
 ghost use mathlib.Core.Bool.{true, not};
+ghost use mathlib.Core.List.{List, [], _∷_, _++_};
 ghost use lib.ListN.{length, take};
 ghost use Rattle.meaning.specs.Formula.{Formula, dropVar};
 ghost use Rattle.meaning.specs.Tidy.{tidied};
-ghost use Rattle.meaning.specs.WellFormed.{goodPrefix};
-ghost use Rattle.table.specs.Table.{emptyFormula, tableOf, Holds, Held};
-ghost use Rattle.table.specs.Answer.{Built};
-ghost use Rattle.filter.specs.Filter.{Covers};
+ghost use Rattle.meaning.specs.WellFormed.{wellFormed};
+ghost use Rattle.table.specs.Table.{emptyFormula, tableOf, decode, withRaw, Holds, Held};
+ghost use Rattle.table.specs.Answer.{Became, Built};
+ghost use Rattle.filter.specs.Filter.{Covers, CoversBut};
 ghost use Rattle.steps.specs.Raws.{withRaws};
-ghost use Rattle.steps.specs.Recipe.{Ready, rawBy, rawsBy, remade};
+ghost use Rattle.steps.specs.Recipe.{Ready, fed, rawBy, rawsBy, remade};
+ghost use Rattle.steps.specs.Left.{about, Lasts, Shrunk};
 use crate::Turn;
 use crate::Which;
 use crate::prefixes::copy_prefix;
 use crate::recipes::feed;
+use crate::recipes::is_left;
 use crate::recipes::is_taken;
-use filter::close_filtered;
+use filter::add_apart;
+use filter::close_stamped;
 use filter::cover;
 use table::Counts;
 use table::Pending;
@@ -24,12 +30,44 @@ use table::Pushed;
 use table::clause_at;
 use table::rank_prefix;
 
-// What becomes of clause i.
+// What becomes of clause i where it changes. Its stamp goes into the filter.
+fn add_changed(
+    target: &mut [u16],
+    d: Counts,
+    clause: &[u16],
+    i: usize,
+    turn: Turn,
+    scratch: &mut [u16],
+    ranks: &[u16],
+    filter: &mut [u64],
+) -> Pushed
+    requires { ⌜ Held (now target) d ⌝ }
+    requires { ⌜ Ready (take (d .variables) (now target)) (now ranks) ⌝ }
+    requires { ⌜ length (now scratch) ≡ 1023 ⌝ }
+    requires { ⌜ length (now filter) ≡ 128 ⌝ }
+    ensures { λ r. ⌜ ((ψ : Formula) → Holds ψ (now (target .entry)) d → Became ψ (withRaw ψ (fed turn (ψ .prefix) i (now (clause .entry)))) (d .second) r (now (target .exit))) ⌝ }
+    ensures { λ r. ⌜ ((others : List (List ℕ)) (e : Counts) → CoversBut others (now (target .entry)) d (now (filter .entry)) → r ≡ Pushed.Done e → CoversBut others (now (target .exit)) e (now (filter .exit))) ⌝ }
+{
+    let n = d.variables;
+    let p = feed(
+        scratch,
+        Pending::empty(),
+        clause,
+        i,
+        turn,
+        &target[..n],
+        ranks,
+    );
+    close_stamped(target, d, scratch, p, ranks, filter)
+}
+
+// What becomes of clause i: one that is left as it was is added as it stands.
 fn add_one(
     target: &mut [u16],
     d: Counts,
     clause: &[u16],
     i: usize,
+    v: u16,
     which: Which,
     turn: Turn,
     scratch: &mut [u16],
@@ -39,22 +77,14 @@ fn add_one(
     requires { ⌜ Held (now target) d ⌝ }
     requires { ⌜ Ready (take (d .variables) (now target)) (now ranks) ⌝ }
     requires { ⌜ length (now scratch) ≡ 1023 ⌝ }
-    requires { ⌜ Covers (now target) d (now filter) ⌝ }
-    ensures { λ r. ⌜ ((ψ : Formula) → Holds ψ (now (target .entry)) d → Built (withRaws ψ (rawBy which turn (ψ .prefix) i (now (clause .entry)))) (d .second) r (now (target .exit))) ⌝ }
-    ensures { λ r. ⌜ ((e : Counts) → r ≡ Pushed.Done e → Covers (now (target .exit)) e (now (filter .exit))) ⌝ }
+    requires { ⌜ length (now filter) ≡ 128 ⌝ }
+    ensures { λ r. ⌜ ((ψ : Formula) (others : List (List ℕ)) → Holds ψ (now (target .entry)) d → CoversBut others (now (target .entry)) d (now (filter .entry)) → Lasts turn v (ψ .prefix) others i (now (clause .entry)) → Built (withRaws ψ (rawBy which turn (ψ .prefix) i (now (clause .entry)))) (d .second) r (now (target .exit)) × ((e : Counts) → r ≡ Pushed.Done e → CoversBut (others ++ (now (clause .entry) ∷ [])) (now (target .exit)) e (now (filter .exit)))) ⌝ }
 {
     if is_taken(which, ranks, i, clause) {
-        let n = d.variables;
-        let p = feed(
-            scratch,
-            Pending::empty(),
-            clause,
-            i,
-            turn,
-            &target[..n],
-            ranks,
-        );
-        return close_filtered(target, d, scratch, p, ranks, filter);
+        if is_left(turn, v, i, clause) {
+            return add_apart(target, d, clause, filter);
+        }
+        return add_changed(target, d, clause, i, turn, scratch, ranks, filter);
     }
     Pushed::Done(d)
 }
@@ -65,6 +95,7 @@ fn add_each(
     c: Counts,
     target: &mut [u16],
     d: Counts,
+    v: u16,
     which: Which,
     turn: Turn,
     scratch: &mut [u16],
@@ -75,9 +106,9 @@ fn add_each(
     requires { ⌜ Held (now target) d ⌝ }
     requires { ⌜ Ready (take (d .variables) (now target)) (now ranks) ⌝ }
     requires { ⌜ length (now scratch) ≡ 1023 ⌝ }
+    requires { ⌜ Shrunk v (take (d .variables) (now target)) (decode (now source) c) × (about turn v ≡ true) ⌝ }
     requires { ⌜ Covers (now target) d (now filter) ⌝ }
     ensures { λ r. ⌜ ((φ ψ : Formula) → Holds φ (now (source .entry)) c → Holds ψ (now (target .entry)) d → Built (withRaws ψ (rawsBy which turn (ψ .prefix) 0 (φ .clauses))) (d .second) r (now (target .exit))) ⌝ }
-    ensures { λ r. ⌜ ((e : Counts) → r ≡ Pushed.Done e → Covers (now (target .exit)) e (now (filter .exit))) ⌝ }
 {
     let mut e = d;
     let mut i = 0;
@@ -87,6 +118,7 @@ fn add_each(
             e,
             clause_at(source, c, i),
             i,
+            v,
             which,
             turn,
             scratch,
@@ -105,12 +137,14 @@ fn add_each(
     Pushed::Done(e)
 }
 
-// What becomes of all clauses of the source. The filter is made here, so that it is on the stack once only.
+// What becomes of all clauses of the source, where variable v is dropped and the turn is about no other. The filter is made here, so
+// that it is on the stack once only.
 pub fn add_all(
     source: &[u16],
     c: Counts,
     target: &mut [u16],
     d: Counts,
+    v: u16,
     which: Which,
     turn: Turn,
     scratch: &mut [u16],
@@ -120,6 +154,7 @@ pub fn add_all(
     requires { ⌜ Held (now target) d ⌝ }
     requires { ⌜ Ready (take (d .variables) (now target)) (now ranks) ⌝ }
     requires { ⌜ length (now scratch) ≡ 1023 ⌝ }
+    requires { ⌜ Shrunk v (take (d .variables) (now target)) (decode (now source) c) × (about turn v ≡ true) ⌝ }
     ensures { λ r. ⌜ ((φ ψ : Formula) → Holds φ (now (source .entry)) c → Holds ψ (now (target .entry)) d → Built (withRaws ψ (rawsBy which turn (ψ .prefix) 0 (φ .clauses))) (d .second) r (now (target .exit))) ⌝ }
 {
     let mut filter = [0u64; 128];
@@ -129,6 +164,7 @@ pub fn add_all(
         c,
         target,
         d,
+        v,
         which,
         turn,
         scratch,
@@ -149,7 +185,7 @@ pub fn rebuild(
     ranks: &mut [u16],
 ) -> Pushed
     requires { ⌜ Held (now source) c ⌝ }
-    requires { ⌜ goodPrefix (take (c .variables) (now source)) ≡ true ⌝ }
+    requires { ⌜ (wellFormed (decode (now source) c) ≡ true) × (about turn v ≡ true) ⌝ }
     requires { ⌜ now target ≡ tableOf emptyFormula ⌝ }
     requires { ⌜ (length (now scratch) ≡ 1023) × (length (now ranks) ≡ 1024) ⌝ }
     ensures { λ r. ⌜ ((φ : Formula) → Holds φ (now (source .entry)) c → Built (tidied (remade which turn v φ)) (not (c .second)) r (now (target .exit))) ⌝ }
@@ -158,5 +194,5 @@ pub fn rebuild(
     let d = copy_prefix(source, c, v, target, !c.second);
     let n = d.variables;
     rank_prefix(&target[..n], ranks);
-    add_all(source, c, target, d, which, turn, scratch, ranks)
+    add_all(source, c, target, d, v, which, turn, scratch, ranks)
 }

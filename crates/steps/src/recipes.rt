@@ -5,10 +5,11 @@ ghost use mathlib.Core.Bool.{not, _&&_};
 ghost use mathlib.Core.List.{List, _++_};
 ghost use lib.ListN.{length, getD};
 ghost use Rattle.meaning.specs.Lists.{has};
-ghost use Rattle.meaning.specs.Formula.{opposite};
+ghost use Rattle.meaning.specs.Formula.{opposite, mentions};
 ghost use Rattle.rules.specs.Simplify.{replaceLit};
 ghost use Rattle.table.specs.Pending.{Pends, Pended};
 ghost use Rattle.steps.specs.Recipe.{Ready, reaches, neither, copyOf, copied, less, taken, turned, someOf, fed};
+ghost use Rattle.steps.specs.Left.{left};
 use crate::Turn;
 use crate::Which;
 use permits::place_of;
@@ -114,6 +115,38 @@ fn copied_in(prefix: &[u16], ranks: &[u16], literal: u16, place: usize, n: u16) 
         return 2 * (e / 2) + literal % 2;
     }
     literal
+}
+
+// Whether no literal of the clause is of variable v.
+fn lacks(clause: &[u16], v: u16) -> bool
+    ensures { λ r. ⌜ r ≡ not (mentions (now (clause .entry)) v) ⌝ }
+{
+    let mut i = 0;
+    while i < clause.len() {
+        if clause[i] / 2 == v {
+            return false;
+        }
+        i += 1;
+    }
+    true
+}
+
+// Whether clause i is left as it was where variable v is dropped: it has no literal of v, and the turn is not about this clause alone.
+pub fn is_left(turn: Turn, v: u16, i: usize, clause: &[u16]) -> bool
+    ensures { λ r. ⌜ r ≡ left turn v i (now (clause .entry)) ⌝ }
+{
+    match turn {
+        Turn::Same => lacks(clause, v),
+        Turn::Drop(_) => lacks(clause, v),
+        Turn::DropAt(b, _) => {
+            if i == b {
+                return false;
+            }
+            lacks(clause, v)
+        }
+        Turn::Replace(_, _) => lacks(clause, v),
+        Turn::Copy(_, _, _) => false,
+    }
 }
 
 // What becomes of a literal of clause i: 0 where it leaves.

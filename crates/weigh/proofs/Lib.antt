@@ -1,4 +1,3 @@
-pub mod ResolvPrefix
 pub mod ResolvBuild
 pub mod ResolvResult
 pub mod ResolvPairs

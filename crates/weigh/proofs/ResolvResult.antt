@@ -20,12 +20,12 @@ use Rattle.meaning.proofs.Basics.{clash, false-of, and-l, and-r, and-i, not-tru
 use Rattle.meaning.proofs.Lists.{all-append, all-all, all-le, all-kept, all-keep-le, any-keep-le, any-ascending}
 use Rattle.meaning.proofs.Parts.{good-of, tidy-of, distinct-of, ascends-of, reduced-of}
 use Rattle.meaning.proofs.Again.{build-same}
+use Rattle.meaning.proofs.TidyPrefix.{reduced-drop, tidy-drop}
 use Rattle.meaning.proofs.Clauses.{drop-not}
 use Rattle.rules.proofs.Good.{good-drop}
 use Rattle.rules.proofs.Expand.{bound-not}
 use Rattle.rules.proofs.Raws.{resolve-ok}
 use Rattle.table.proofs.LoopLaws.{all-getD}
-use Rattle.weigh.proofs.ResolvPrefix.{reduced-drop, tidy-drop}
 use Rattle.weigh.proofs.ResolvBuild.{build-append, build-next, any-built, build-grows, same-kept}
 use Rattle.weigh.proofs.ResolvPairs.{pair-at}
 

@@ -17,10 +17,10 @@ use Rattle.rules.specs.Eliminate.{withLit, resolventsOf, resolvents}
 use Rattle.weigh.specs.Resolving.{restOf, resolvent, becomes, fitsIn, rawResolvents, pairs, anyGives, rowGives, cameBefore}
 use Rattle.meaning.proofs.Basics.{and-l, and-r, and-i, or-il, false-of, clash}
 use Rattle.meaning.proofs.Lists.{any-append, any-agree, all-append}
+use Rattle.meaning.proofs.TidyPrefix.{tidy-drop}
 use Rattle.table.proofs.LoopLaws.{any-found, any-turn, any-end}
 use Rattle.weigh.proofs.ResolvPairs.{one-length, pairs-length}
 use Rattle.weigh.proofs.ResolvResult.{raws-bound, raw-free}
-use Rattle.weigh.proofs.ResolvPrefix.{tidy-drop}
 use Rattle.weigh.proofs.ResolvFits.{not-fits}
 
 -- A row ------------------------------------------------------------------------------------------------------------------------

@@ -1,9 +1,10 @@
 -- One recipe, then the two halves.
 -- Assumes nothing.
-use mathlib.Core.Path.{_∙_}
+use mathlib.Core.Path.{refl, _∙_}
 use Rattle.table.proofs.HoldLaws.{held}
+use Rattle.steps.specs.Left.{about}
 use Rattle.steps.proofs.BuildLaws.{built-done}
-use Rattle.steps.proofs.RawLaws.{ready-after}
+use Rattle.steps.proofs.RawLaws.{ready-after, shrunk-after}
 use Rattle.steps.proofs.ExpandLaws.{expanded-full, expanded-done}
 use borrow.Author.Needs.{needs}
 use Rattle.steps.proofs.expanding.add_expanded.Statement.{statement}
@@ -12,7 +13,7 @@ use Rattle.steps.proofs.expanding.add_expanded.Tie as tie
 add-all-requires : tie.Need-add-all-requires
 add-all-requires c κs =
     let s = c .before .before .before .before .before .before in
-    (s .pre .0, (s .pre .1 .0, (s .pre .1 .1 .0, s .pre .1 .1 .1 .0)))
+    (s .pre .0, (s .pre .1 .0, (s .pre .1 .1 .0, (s .pre .1 .1 .1 .0 .0, (s .pre .1 .1 .1 .1, unfold about in refl)))))
 
 enum-known-e : tie.Need-enum-known-e
 enum-known-e c = search needs
@@ -25,7 +26,8 @@ add-halves-requires c κs =
     let b = k .add-all .ensures (s .pre .0 .formula) (s .pre .1 .0 .formula) (s .pre .0 .holds) (s .pre .1 .0 .holds) in
     let h = built-done _ _ _ _ b _ (e .e .given .1) in
     let ready = ready-after (s .pre .1 .0 .holds) (s .pre .1 .1 .0) _ _ _ _ b _ (e .e .given .1) in
-    (s .pre .0, (held h, (ready, (k .add-all .kept .1 .1 .1 .1 .1 .1 .0 ∙ s .pre .1 .1 .1 .0, s .pre .1 .1 .1 .1))))
+    let shrunk = shrunk-after (s .pre .1 .0 .holds) (s .pre .1 .1 .1 .1) _ _ _ _ b _ (e .e .given .1) in
+    (s .pre .0, (held h, (ready, ((k .add-all .kept .1 .1 .1 .1 .1 .1 .1 .0 ∙ s .pre .1 .1 .1 .0 .0, s .pre .1 .1 .1 .0 .1), shrunk))))
 
 enum-told : tie.Need-enum-told
 enum-told c = search needs

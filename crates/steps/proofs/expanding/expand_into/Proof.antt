@@ -15,8 +15,8 @@ use Rattle.steps.specs.Raws.{bare}
 use Rattle.steps.specs.Recipe.{Ready}
 use Rattle.steps.proofs.BuildLaws.{built-done}
 use Rattle.steps.proofs.RawLaws.{ranked-ready}
-use Rattle.steps.proofs.GivenLaws.{begun-held, begun-ranks, given-ready}
-use Rattle.steps.proofs.ExpandLaws.{front, expand-few, expand-good, expand-full, expand-done, expand-never}
+use Rattle.steps.proofs.GivenLaws.{begun-held, begun-well, begun-ranks, given-ready}
+use Rattle.steps.proofs.ExpandLaws.{front, expand-shrunk, expand-few, expand-good, expand-full, expand-done, expand-never}
 use borrow.Author.Needs.{needs}
 use Rattle.steps.proofs.expanding.expand_into.Statement.{statement}
 use Rattle.steps.proofs.expanding.expand_into.Tie as tie
@@ -151,7 +151,7 @@ add-expanded-requires c κs =
     let r = c .before .before .before .before .before .before in
     let e = done r in
     let small = counting (copying (pushing e)) .before .before .before .before .if1 .left in
-    (begun-held (first e .pre), (there-held e, (ready r, (first e .pre .room, omega arith))))
+    (begun-held (first e .pre), (there-held e, (ready r, ((first e .pre .room, omega arith), expand-shrunk (first e .pre .given) _ (begun-well (first e .pre)) _ (there e (first e .pre .formula) (first e .pre .given))))))
 
 enum-told : tie.Need-enum-told
 enum-told c = search needs

@@ -1,6 +1,6 @@
 -- One recipe.
 -- Assumes nothing.
-use Rattle.steps.proofs.GivenLaws.{begun-rebuild, assigned}
+use Rattle.steps.proofs.GivenLaws.{begun-rebuild, about-flip, assigned}
 use mathlib.Core.Path.{refl}
 use borrow.Author.Needs.{needs}
 use Rattle.steps.proofs.kinds.assign_into.Statement.{statement}
@@ -10,7 +10,7 @@ flip-requires : tie.Need-flip-requires
 flip-requires c κs = search needs
 
 rebuild-requires : tie.Need-rebuild-requires
-rebuild-requires c κs = begun-rebuild (c .before .before .before .before .before .before .before .before .pre)
+rebuild-requires c κs = begun-rebuild (c .before .before .before .before .before .before .before .before .pre) _ _ (about-flip _ _ _ (c .before .before .flip .ensures) refl)
 
 same-length : tie.Need-same-length
 same-length c = search needs

@@ -2,7 +2,7 @@
 -- Assumes nothing.
 use mathlib.Core.Path.{refl}
 use Rattle.rules.specs.Step.{permitted}
-use Rattle.steps.proofs.GivenLaws.{begun-held, begun-ranks, begun-rebuild, equality-made}
+use Rattle.steps.proofs.GivenLaws.{begun-held, begun-ranks, begun-rebuild, about-old, equality-made}
 use borrow.Author.Needs.{needs}
 use Rattle.steps.proofs.kinds.equality_into.Statement.{statement}
 use Rattle.steps.proofs.kinds.equality_into.Tie as tie
@@ -11,7 +11,7 @@ replacement-of-requires : tie.Need-replacement-of-requires
 replacement-of-requires c κs = let b = c .before .before .before .before .before .pre in (begun-held b, begun-ranks b)
 
 rebuild-requires : tie.Need-rebuild-requires
-rebuild-requires c κs = begun-rebuild (c .before .before .before .before .before .before .before .before .before .before .pre)
+rebuild-requires c κs = begun-rebuild (c .before .before .before .before .before .before .before .before .before .before .pre) _ _ (about-old _ _ _ refl)
 
 same-length : tie.Need-same-length
 same-length c = search needs

@@ -1,6 +1,8 @@
 -- One recipe; where the step is permitted there is a literal.
 -- Assumes nothing.
 use Rattle.steps.proofs.GivenLaws.{begun-held, begun-ranks, begun-rebuild, strengthen-made, strengthen-never}
+use mathlib.Core.Path.{refl}
+use Rattle.steps.specs.Left.{about}
 use borrow.Author.Needs.{needs}
 use Rattle.steps.proofs.kinds.strengthen_into.Statement.{statement}
 use Rattle.steps.proofs.kinds.strengthen_into.Tie as tie
@@ -15,7 +17,7 @@ flip-requires : tie.Need-flip-requires
 flip-requires c κs = search needs
 
 rebuild-requires : tie.Need-rebuild-requires
-rebuild-requires c κs = begun-rebuild (c .before .before .before .before .before .before .before .before .before .before .before .before .before .pre)
+rebuild-requires c κs = begun-rebuild (c .before .before .before .before .before .before .before .before .before .before .before .before .before .pre) _ _ (unfold about in refl)
 
 enum-told : tie.Need-enum-told
 enum-told c = search needs

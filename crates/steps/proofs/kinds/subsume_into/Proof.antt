@@ -1,12 +1,14 @@
 -- One recipe.
 -- Assumes nothing.
 use Rattle.steps.proofs.GivenLaws.{begun-rebuild, subsume-made}
+use mathlib.Core.Path.{refl}
+use Rattle.steps.specs.Left.{about}
 use borrow.Author.Needs.{needs}
 use Rattle.steps.proofs.kinds.subsume_into.Statement.{statement}
 use Rattle.steps.proofs.kinds.subsume_into.Tie as tie
 
 rebuild-requires : tie.Need-rebuild-requires
-rebuild-requires c κs = begun-rebuild (c .before .before .before .before .before .before .before .pre)
+rebuild-requires c κs = begun-rebuild (c .before .before .before .before .before .before .before .pre) _ _ (unfold about in refl)
 
 same-length : tie.Need-same-length
 same-length c = search needs

@@ -17,7 +17,7 @@ add-each-requires : tie.Need-add-each-requires
 add-each-requires c κs =
     let k = c .before .before .before .before in
     let s = k .before .before .before .before .before .before .before in
-    (s .pre .0, (s .pre .1 .0, (s .pre .1 .1 .0, (s .pre .1 .1 .1, k .cover .ensures))))
+    (s .pre .0, (s .pre .1 .0, (s .pre .1 .1 .0, (s .pre .1 .1 .1 .0, (s .pre .1 .1 .1 .1, k .cover .ensures)))))
 
 same-length : tie.Need-same-length
 same-length c = search needs

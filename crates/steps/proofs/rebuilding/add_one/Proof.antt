@@ -1,14 +1,9 @@
--- A clause that is taken is fed and closed.
+-- A clause that is taken lasts, or is fed and closed.
 -- Assumes nothing.
 use mathlib.Core.Path.{sym, _∙_}
-use mathlib.Core.List.{[]}
-use native.Mathlib.Omega.{arith}
-use lib.Seq.{length-take-le}
-use Rattle.table.proofs.HoldLaws.{bounds}
-use Rattle.table.proofs.PendingLaws.{pends-empty, pended}
-use Rattle.filter.proofs.FilterLaws.{covers-same}
+use Rattle.filter.proofs.ApartLaws.{apart-same, apart-other, apart-more}
 use Rattle.steps.proofs.RecipeLaws.{ready-length}
-use Rattle.steps.proofs.RawLaws.{ready-good, ready-ranks, one-left, one-taken}
+use Rattle.steps.proofs.RawLaws.{one-left, one-changed, one-stays}
 use borrow.Author.Needs.{needs}
 use Rattle.steps.proofs.rebuilding.add_one.Statement.{statement}
 use Rattle.steps.proofs.rebuilding.add_one.Tie as tie
@@ -16,24 +11,11 @@ use Rattle.steps.proofs.rebuilding.add_one.Tie as tie
 is-taken-requires : tie.Need-is-taken-requires
 is-taken-requires c κs = ready-length (c .before .before .before .before .before .pre .1 .0)
 
-empty-requires : tie.Need-empty-requires
-empty-requires c κs = search needs
+is-left-requires : tie.Need-is-left-requires
+is-left-requires c κs = search needs
 
-slice-reshare-prefix-feed : tie.Need-slice-reshare-prefix-feed
-slice-reshare-prefix-feed c = let b = bounds (c .before .before .before .before .before .before .before .before .before .pre .0) in omega arith
-
-slice-aggregate-feed : tie.Need-slice-aggregate-feed
-slice-aggregate-feed c = let b = bounds (c .before .before .before .before .before .before .before .before .before .before .pre .0) in sym (length-take-le _ _ (omega arith))
-
-feed-requires : tie.Need-feed-requires
-feed-requires c κs = let s = c .before .before .before .before .before .before .before .before .before .before in (pended (pends-empty _ _ (c .before .empty .ensures) (s .pre .1 .1 .0)), s .pre .1 .0)
-
-close-filtered-requires : tie.Need-close-filtered-requires
-close-filtered-requires c κs =
-    let f = c .before .before .before .before .before in
-    let s = f .before .before .before .before .before .before .before .before .before .before .before in
-    let d = pended (f .feed .ensures [] (pends-empty _ _ (f .before .before .empty .ensures) (s .pre .1 .1 .0))) in
-    (s .pre .0, (d, (ready-length (s .pre .1 .0), s .pre .1 .1 .1)))
+add-apart-requires : tie.Need-add-apart-requires
+add-apart-requires c κs = search needs
 
 same-length : tie.Need-same-length
 same-length c = search needs
@@ -41,38 +23,55 @@ same-length c = search needs
 same-length-2 : tie.Need-same-length-2
 same-length-2 c = search needs
 
+returns : tie.Need-returns
+returns c =
+    let a = c .before .before in
+    let y = a .before .before .before in
+    let m = y .before in
+    let k = m .before .before in
+    let s = k .before .before .before .before .before .before in
+    λ ψ others h f l. let b = a .add-apart .ensures ψ others h f (l .apart) in
+    (one-stays _ _ h _ _ _ (k .is-taken .ensures _ (s .pre .1 .0)) (m .before .if1 .taken) (l .stays (sym (m .is-left .ensures) ∙ y .if2 .taken)) _ _ b, λ e q. apart-more h f _ _ _ _ b e q)
+
+add-changed-requires : tie.Need-add-changed-requires
+add-changed-requires c κs = search needs
+
 same-length-3 : tie.Need-same-length-3
 same-length-3 c = search needs
 
-returns : tie.Need-returns
-returns c =
-    let k = c .before .before .before .before .before .before in
-    let f = k .before .before .before .before .before .before in
-    let y = f .before .before in
-    let a = y .before .before .before in
-    let s = a .before .before .before .before .before .before in
-    let ready = s .pre .1 .0 in
-    let fed = f .feed .ensures [] (pends-empty _ _ (y .empty .ensures) (s .pre .1 .1 .0)) in
-    (λ ψ h. one-taken _ _ h _ _ _ (a .is-taken .ensures _ ready) (y .before .before .if1 .taken) _ _ (k .close-filtered .ensures .0 ψ _ h (ready-good h ready) (ready-ranks h ready) fed), k .close-filtered .ensures .1)
+same-length-4 : tie.Need-same-length-4
+same-length-4 c = search needs
+
+same-length-5 : tie.Need-same-length-5
+same-length-5 c = search needs
 
 returns-2 : tie.Need-returns-2
 returns-2 c =
-    let a = c .before in
-    let s = a .before .before .before .before .before .before in
-    (λ ψ h. one-left _ _ h _ _ _ (a .is-taken .ensures _ (s .pre .1 .0)) (c .if1 .left), covers-same (s .pre .1 .1 .1))
+    let a = c .before .before .before .before .before .before in
+    let y = a .before .before .before .before .before .before in
+    let k = y .before in
+    let s = k .before .before .before .before .before .before in
+    λ ψ others h f l. (one-changed _ _ h _ _ _ (k .is-taken .ensures _ (s .pre .1 .0)) (y .if1 .taken) _ _ (a .add-changed .ensures .0 ψ h), λ e q. apart-other (a .add-changed .ensures .1 others e f q) _)
+
+returns-3 : tie.Need-returns-3
+returns-3 c =
+    let k = c .before in
+    let s = k .before .before .before .before .before .before in
+    λ ψ others h f l. (one-left _ _ h _ _ _ (k .is-taken .ensures _ (s .pre .1 .0)) (c .if1 .left), λ e q. apart-other (apart-same f e q) _)
 
 pub add-one-spec : {M : Type 1} → statement M
 add-one-spec =
     tie.close
     (tie.spec
     is-taken-requires
-    empty-requires
-    slice-reshare-prefix-feed
-    slice-aggregate-feed
-    feed-requires
-    close-filtered-requires
+    is-left-requires
+    add-apart-requires
     same-length
     same-length-2
-    same-length-3
     returns
-    returns-2)
+    add-changed-requires
+    same-length-3
+    same-length-4
+    same-length-5
+    returns-2
+    returns-3)

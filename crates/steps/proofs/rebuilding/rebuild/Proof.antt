@@ -7,7 +7,7 @@ use lib.Seq.{length-take-le}
 use Rattle.table.specs.Table.{Held}
 use Rattle.table.proofs.HoldLaws.{bounds, held}
 use Rattle.steps.specs.Recipe.{Ready}
-use Rattle.steps.proofs.RawLaws.{ranked-ready, copied-good, remade-built, ready-after}
+use Rattle.steps.proofs.RawLaws.{ranked-ready, copied-good, remade-built, ready-after, source-good, shrunk-copied}
 use borrow.Author.Needs.{needs}
 use Rattle.steps.proofs.rebuilding.rebuild.Statement.{statement}
 use Rattle.steps.proofs.rebuilding.rebuild.Tie as tie
@@ -22,7 +22,7 @@ ready c =
     let k = c .before .before .before .before .before in
     let s = k .before .before .before .before .before .before .before in
     let h = s .pre .0 .holds in
-    ranked-ready (k .copy-prefix .ensures .0 (s .pre .0 .formula) h) (copied-good h (s .pre .1 .0) _) _ _ (c .rank-prefix .ensures)
+    ranked-ready (k .copy-prefix .ensures .0 (s .pre .0 .formula) h) (copied-good h (source-good h (s .pre .1 .0 .0)) _) _ _ (c .rank-prefix .ensures)
 
 copy-prefix-requires : tie.Need-copy-prefix-requires
 copy-prefix-requires c κs = search needs
@@ -37,7 +37,9 @@ rank-prefix-requires : tie.Need-rank-prefix-requires
 rank-prefix-requires c κs = let k = c .before .before .before .before in let b = bounds (copied k) in (k .before .before .before .before .before .before .before .pre .1 .1 .1 .1, omega (arith, length-take-le (k .copy-prefix .result .variables) (k .copy-prefix .last .1 .1 .1 .0) (omega arith)))
 
 add-all-requires : tie.Need-add-all-requires
-add-all-requires c κs = let r = c .before .before .before .before .before in let k = r .before .before .before .before .before in let s = k .before .before .before .before .before .before .before in (s .pre .0, (copied k, (ready r, s .pre .1 .1 .1 .0)))
+add-all-requires c κs = let r = c .before .before .before .before .before in let k = r .before .before .before .before .before in let s = k .before .before .before .before .before .before .before in
+    let h = s .pre .0 .holds in
+    (s .pre .0, (copied k, (ready r, (s .pre .1 .1 .1 .0, (shrunk-copied h (s .pre .1 .0 .0) _ (k .copy-prefix .ensures .0 (s .pre .0 .formula) h), s .pre .1 .0 .1)))))
 
 same-length : tie.Need-same-length
 same-length c = search needs

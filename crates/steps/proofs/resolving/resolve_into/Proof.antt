@@ -1,6 +1,7 @@
 -- The clauses without the variable, then the resolvents.
 -- Assumes nothing.
-use mathlib.Core.Path.{_∙_}
+use mathlib.Core.Path.{refl, _∙_}
+use Rattle.steps.specs.Left.{about}
 use Rattle.table.proofs.HoldLaws.{held}
 use Rattle.steps.proofs.BuildLaws.{built-done}
 use Rattle.steps.proofs.GivenLaws.{begun-held, begun-rebuild}
@@ -25,7 +26,7 @@ add-negative : tie.Need-add-negative
 add-negative c = search needs
 
 rebuild-requires : tie.Need-rebuild-requires
-rebuild-requires c κs = begun-rebuild (c .before .before .before .before .before .before .before .before .pre)
+rebuild-requires c κs = begun-rebuild (c .before .before .before .before .before .before .before .before .pre) _ _ (unfold about in refl)
 
 enum-known-d : tie.Need-enum-known-d
 enum-known-d c = search needs

@@ -1,17 +1,18 @@
--- A variable that a clause does not have may leave the prefix: the clause is tidied as before.
+-- The prefix may change where a clause does not see it: a variable that the clause does not have leaves, or existentials come at the
+-- right end. The clause is tidied as before.
 -- Assumes nothing.
 use Prim.Native.Nat.{ℕ, _+_, _*_}
 use mathlib.Core.Path.{_≡_, refl, sym, ap, fun-ext, _∙_}
-use mathlib.Core.Bool.{Bool, true, false, _&&_, not, cond}
-use mathlib.Core.List.{List, [], _∷_}
+use mathlib.Core.Bool.{Bool, true, false, _&&_, _||_, not, cond}
+use mathlib.Core.List.{List, [], _∷_, _++_}
 use lib.Dec.{eqb}
 use Rattle.meaning.specs.Lists.{allOf, anyOf, keepIf, has}
 use Rattle.meaning.specs.Formula.{var, odd, isVar, mentions, dropVar, universal, rightOf, anyExist}
 use Rattle.meaning.specs.Tidy.{ascending, bothPhases, stays, reduce, dropped, kept, tidySorted, tidy}
 use Rattle.meaning.specs.WellFormed.{reduced}
-use Rattle.meaning.proofs.Basics.{clash, and-l, and-r, eqb-true, eqb-false, eqb-ne, eqb-sym, not-true}
-use Rattle.meaning.proofs.Lists.{any-keep, any-none, any-ascending, all-agree}
+use Rattle.meaning.proofs.Basics.{clash, and-l, and-r, or-il, or-ir, or-elim, or-false, eqb-true, eqb-false, eqb-ne, eqb-sym, not-true}
+use Rattle.meaning.proofs.Lists.{any-append, any-keep, any-none, none-any, any-ascending, all-le, all-agree}
 use Rattle.meaning.proofs.Prefix.{eqb-negated}
 
 -- what passes f is of another variable, so to leave out v changes nothing
 keep-any : (v : ℕ) (f : ℕ → Bool) (s : List ℕ) → ((q : ℕ) → isVar v q ≡ true → f q ≡ false) → anyOf f (dropVar v s) ≡ anyOf f s
@@ -79,3 +80,44 @@ pub tidy-drop : (v : ℕ) (p raw : List ℕ) → mentions raw v ≡ false → ti
 unfolding tidy tidySorted mentions
 tidy-drop v p raw out =
     ap (λ (c : List ℕ). cond (bothPhases (ascending raw)) dropped (kept c)) (reduce-drop v p (ascending raw) (any-ascending (isVar v) raw ∙ out))
+
+-- Existentials at the right end --------------------------------------------------------------------------------------
+module _ (p more : List ℕ) (exist : allOf (λ e. not (odd e)) more ≡ true) where
+  -- no universal comes
+  universal-more : (w : ℕ) → universal (p ++ more) w ≡ universal p w
+  unfolding universal has
+  universal-more w =
+      any-append (λ q. eqb (2 * w + 1) q) p more
+      ∙ ap (λ (b : Bool). anyOf (λ q. eqb (2 * w + 1) q) p || b) (none-any (λ q. eqb (2 * w + 1) q) more (all-le (λ e. not (odd e)) (λ e. not (eqb (2 * w + 1) e)) more other exist))
+      ∙ or-false (anyOf (λ q. eqb (2 * w + 1) q) p)
+    where
+      none : (b : Bool) → not (b && false) ≡ true
+      none true = refl
+      none false = refl
+
+      other : (e : ℕ) → not (odd e) ≡ true → not (eqb (2 * w + 1) e) ≡ true
+      other e n = rw (eqb-negated w e, not-true (odd e) n) (none (eqb (var e) w))
+
+  right-more : (w : ℕ) (s c : List ℕ) → anyExist (rightOf w s) c ≡ true → anyExist (rightOf w (s ++ more)) c ≡ true
+  unfolding rightOf anyExist anyOf
+  right-more w [] c h = clash h refl
+  right-more w (q ∷ s) c h = go (isVar w q) h (right-more w s c)
+    where
+      go : (b : Bool) → anyExist (cond b s (rightOf w s)) c ≡ true → (anyExist (rightOf w s) c ≡ true → anyExist (rightOf w (s ++ more)) c ≡ true)
+          → anyExist (cond b (s ++ more) (rightOf w (s ++ more))) c ≡ true
+      go true e ih =
+          unfold anyExist in
+          (any-append (λ x. not (odd x) && mentions c (var x)) s more
+          ∙ or-il (anyOf (λ x. not (odd x) && mentions c (var x)) s) (anyOf (λ x. not (odd x) && mentions c (var x)) more) (unfold anyExist in e))
+      go false e ih = ih e
+
+  pub reduced-more : (c : List ℕ) → reduced p c ≡ true → reduced (p ++ more) c ≡ true
+  unfolding reduced
+  reduced-more c h = all-le (stays p c) (stays (p ++ more) c) c stay h
+    where
+      stay : (l : ℕ) → stays p c l ≡ true → stays (p ++ more) c l ≡ true
+      stay l e =
+          unfold stays in
+          or-elim (not (universal p (var l))) (anyExist (rightOf (var l) p) c) (unfold stays in e)
+          (λ n. or-il (not (universal (p ++ more) (var l))) (anyExist (rightOf (var l) (p ++ more)) c) (ap not (universal-more (var l)) ∙ n))
+          (λ r. or-ir (not (universal (p ++ more) (var l))) (anyExist (rightOf (var l) (p ++ more)) c) (right-more (var l) p c r))
