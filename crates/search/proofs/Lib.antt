@@ -4,4 +4,7 @@ pub mod FirstLaws
 pub mod CandidateLaws
 pub mod LoneLaws
 pub mod AmongLaws
+pub mod MergeLaws
+pub mod WalkLaws
+pub mod LowestLaws
 pub mod StrengthenLaws

@@ -1,155 +1,120 @@
--- Kind 4, strengthen: the test by one literal of the clause, which clauses are enough to look at, and all literals together.
+-- Kind 4, strengthen: the test of one clause, which clauses are enough to look at, and the lowest of them.
 -- Assumes nothing.
-use Prim.Native.Nat.{ℕ, zero, suc, _+_, _-_, _/_, _≤_, _<_}
-use mathlib.Core.Path.{_≡_, refl, sym, ap, _∙_}
-use mathlib.Core.Bool.{Bool, true, false, _&&_, not}
+use Prim.Native.Nat.{ℕ, zero, suc, _+_, _≤_, _<_}
+use mathlib.Core.Path.{_≡_, refl, sym, ap, _∙_, fun-ext}
+use mathlib.Core.Bool.{Bool, true, false, _&&_, _||_, not}
 use mathlib.Core.List.{List, [], _∷_}
-use lib.ListN.{length, getD, take, drop}
+use lib.ListN.{length, getD}
 use lib.Dec.{eqb, ltb}
 use borrow.Author.Tests.{ltb-true}
-use native.Mathlib.Numerals.{add-one}
-use native.Mathlib.Nat.{not-suc-le-zero, le-of-suc-le-suc}
 use native.Mathlib.Omega.{arith}
-use Rattle.meaning.specs.Lists.{anyOf, allOf, keepIf, has, partOf, without, upFrom}
-use Rattle.meaning.specs.Formula.{Formula, var, opposite, existential}
-use Rattle.meaning.specs.WellFormed.{ascends}
+use Rattle.meaning.specs.Lists.{anyOf, keepIf, has, partOf, without, upFrom}
+use Rattle.meaning.specs.Formula.{Formula, opposite}
+use Rattle.meaning.specs.WellFormed.{ascends, wellFormed}
 use Rattle.rules.specs.Entry.{strengthen, usesB}
 use Rattle.rules.specs.Simplify.{clauseAt, isClause, strengthens, strengthenPermitted}
 use Rattle.rules.specs.Step.{permitted}
-use Rattle.rules.specs.Choice.{firstB, indices, seconds}
+use Rattle.rules.specs.Choice.{indices, seconds}
 use Rattle.table.specs.Table.{Holds}
 use Rattle.table.specs.declared.Counts.{Counts}
 use Rattle.index.specs.Index.{clausesWith}
-use Rattle.search.specs.Candidates.{foundAs, firstFor, strengthensBy, Strong, marks}
-use Rattle.search.specs.declared.Found.{Found}
-use Rattle.search.specs.declared.Found.the-variants.{Nothing}
-use Rattle.meaning.proofs.Basics.{and-l, and-r, or-il, or-ir, or-elim, eqb-true, eqb-eq, eqb-ne, eqb-self}
-use Rattle.meaning.proofs.Lists.{all-has, all-le, keep-all, has-keep}
-use Rattle.table.proofs.ListLaws.{tail-mid}
-use Rattle.table.proofs.LoopLaws.{all-getD}
-use Rattle.permits.proofs.AndLaws.{and-second, and-none}
+use Rattle.search.specs.Candidates.{foundAs, firstFor, someStrengthens, strengthened, lowest, Lowest}
+use Rattle.search.specs.declared.Found.the-variants.{Nothing, Pair}
+use Rattle.meaning.proofs.Basics.{by-cases, and-l, and-r, or-il, or-ir, or-elim, eqb-true, eqb-false}
+use Rattle.meaning.proofs.Lists.{all-has, any-witness, has-keep}
+use Rattle.table.proofs.HoldLaws.{count-clauses}
 use Rattle.permits.proofs.ClauseLaws.{absent, present}
-use Rattle.permits.proofs.StrengthenLaws.{strengthens-not, strengthens-is}
-use Rattle.search.proofs.AmongLaws.{enough}
-use Rattle.search.proofs.FirstLaws.{first-none, first-same, byOne}
+use Rattle.index.proofs.ClauseLaws.{with-kept}
+use Rattle.search.proofs.StudyLaws.{clause-rises}
+use Rattle.search.proofs.MergeLaws.{strong-longer}
+use Rattle.search.proofs.LowestLaws.{lowest-both, lowest-none, lowest-nothing, lowest-found}
 
--- The others of a clause ---------------------------------------------------------------------------------------
--- where the variables ascend, the literals but that at index i are those before it and those behind it
-others-split : (x y : List ℕ) (i : ℕ) → ascends x ≡ true → i < length x
-    → partOf (without (getD x i 0) x) y ≡ (partOf (take i x) y && partOf (drop (suc i) x) y)
-unfolding partOf without allOf keepIf ascends
-others-split [] y i up h = absurd (not-suc-le-zero h)
-others-split (l ∷ x) y zero up h =
-    rw (eqb-self l)
-    (ap (λ (z : List ℕ). partOf z y)
-    (keep-all (λ k. not (eqb l k)) x (all-le (λ k. ltb (var l) (var k)) (λ k. not (eqb l k)) x apart (search and-l))))
-  where
-    apart : (k : ℕ) → ltb (var l) (var k) ≡ true → not (eqb l k) ≡ true
-    apart k m = let n = ltb-true (var l) (var k) m in ap not (eqb-ne l k (λ e. omega (arith, ap var e)))
-others-split (l ∷ x) y (suc i) up h =
-    rw other
-    (ap (λ (b : Bool). has l y && b) (others-split x y i (search and-r) (le-of-suc-le-suc h))
-    ∙ assoc (has l y) (partOf (take i x) y) (partOf (drop (suc i) x) y))
-  where
-    other : eqb (getD x i 0) l ≡ false
-    other =
-        let m = ltb-true (var l) (var (getD x i 0)) (all-getD (λ k. ltb (var l) (var k)) 0 x i (search and-l) (le-of-suc-le-suc h)) in
-        eqb-ne (getD x i 0) l (λ e. omega (arith, ap var e))
-
-    assoc : (a b d : Bool) → (a && (b && d)) ≡ ((a && b) && d)
-    assoc true b d = refl
-    assoc false b d = refl
-
--- The test by the literal of x at index i ----------------------------------------------------------------------
-module _ {φ : Formula} {t : List ℕ} {c : Counts} (h : Holds φ t c) (x : List ℕ) (i b : ℕ) where
-  pub strong-absent : c .clauses ≤ b → false ≡ strengthensBy φ x (getD x i 0) b
-  unfolding strengthensBy
+-- The test of one clause -----------------------------------------------------------------------------------------
+module _ {φ : Formula} {t : List ℕ} {c : Counts} (h : Holds φ t c) (x : List ℕ) (b : ℕ) where
+  pub strong-absent : c .clauses ≤ b → false ≡ strengthened φ x b
+  unfolding strengthened
   strong-absent k = rw (absent h b k)
 
-  module _ (k : b < c .clauses) (y : List ℕ) (at-b : y ≡ getD (φ .clauses) b []) (s : Strong φ x i)
-      (o : ℕ) (opp : o ≡ opposite (getD x i 0)) (m : Bool) (in-y : m ≡ has o y) where
-    there : (r : Bool) → r ≡ strengthens (φ .prefix) x y (getD x i 0) → r ≡ strengthensBy φ x (getD x i 0) b
-    unfolding strengthensBy clauseAt
-    there r e = rw (present h b k, ← at-b) e
+  module _ (k : b < c .clauses) (y : List ℕ) (at-b : y ≡ getD (φ .clauses) b []) where
+    pub strong-is : (r : Bool) → r ≡ someStrengthens (φ .prefix) x y → r ≡ strengthened φ x b
+    unfolding strengthened clauseAt
+    strong-is r e = rw (present h b k, ← at-b) e
 
-    pub strong-not : m ≡ false → false ≡ strengthensBy φ x (getD x i 0) b
-    unfolding var
-    strong-not n = there false (strengthens-not (φ .prefix) x y (getD x i 0) true (sym (s .exists)) refl o opp m in-y n)
-
-    module _ (n : m ≡ true) (u : i < length x) (p : Bool) (front : p ≡ partOf (take i x) y) where
-      others : (r : Bool) → r ≡ (partOf (take i x) y && partOf (drop (i + 1) x) y) → r ≡ strengthensBy φ x (getD x i 0) b
-      unfolding var
-      others r e =
-          there r (strengthens-is (φ .prefix) x y (getD x i 0) true (sym (s .exists)) refl o opp m in-y n r
-          (e ∙ rw (add-one i) (sym (others-split x y i (s .rises) u))))
-
-      pub strong-front : p ≡ false → false ≡ strengthensBy φ x (getD x i 0) b
-      strong-front q = others false (and-none (partOf (take i x) y) (partOf (drop (i + 1) x) y) p front q)
-
-      pub strong-back : p ≡ true → (r : Bool) → r ≡ partOf (take (length x - (i + 1)) (drop (i + 1) x)) y
-          → r ≡ strengthensBy φ x (getD x i 0) b
-      strong-back q r e =
-          others r (and-second (partOf (take i x) y) (partOf (drop (i + 1) x) y) p r front q
-          (e ∙ ap (λ (z : List ℕ). partOf z y) (tail-mid x (i + 1))))
-
--- where the literal is universal there is none
-pub strong-none : (φ : Formula) (x : List ℕ) (l a : ℕ) (s : List ℕ) (e : Bool) → e ≡ existential (φ .prefix) (l / 2) → e ≡ false
-    → Nothing ≡ foundAs (firstB (strengthensBy φ x l) a s)
-unfolding strengthensBy strengthens foundAs var
-strong-none φ x l a s e is n =
-    let none : existential (φ .prefix) (l / 2) ≡ false = sym is ∙ n in
-    sym (ap foundAs (first-none (strengthensBy φ x l) a s (λ b. rw none (and-false (isClause (φ .clauses) b)))))
-  where
-    and-false : (b : Bool) → (b && false) ≡ false
-    and-false true = refl
-    and-false false = refl
-
-pub strong-is : (φ : Formula) (x : List ℕ) (i : ℕ) (e : Bool) → e ≡ existential (φ .prefix) (getD x i 0 / 2) → e ≡ true → ascends x ≡ true
-    → Strong φ x i
-unfolding var
-strong-is φ x i e is y up = record { exists = sym is ∙ y; rises = up }
+    pub strong-short : wellFormed φ ≡ true → ascends x ≡ true → length y < length x → false ≡ strengthened φ x b
+    strong-short w up n = strong-is false (sym (strong-longer (φ .prefix) x y up (clause-rises h w b k y at-b) n))
 
 -- Which clauses are enough ---------------------------------------------------------------------------------------
-pub mark-opposite : (x : List ℕ) (l o : ℕ) → o ≡ opposite l → marks x l o ≡ true
-unfolding marks
-mark-opposite x l o e = or-il (eqb o (opposite l)) (not (eqb l o) && has o x) (eqb-eq e)
-
-pub mark-rare : (x : List ℕ) (l k : ℕ) → (l ≡ k → ⊥) → has k x ≡ true → marks x l k ≡ true
-unfolding marks
-mark-rare x l k d e = or-ir (eqb k (opposite l)) (not (eqb l k) && has k x) (rw (eqb-ne l k d) e)
-
-marked : (φ : Formula) (x : List ℕ) (l k b : ℕ) → marks x l k ≡ true → strengthensBy φ x l b ≡ true → has k (clauseAt (φ .clauses) b) ≡ true
-unfolding marks strengthensBy strengthens partOf without
-marked φ x l k b m s =
+-- what x strengthens has each literal of x, or its opposite
+marked : (φ : Formula) (x : List ℕ) (l b : ℕ) → has l x ≡ true → strengthened φ x b ≡ true
+    → (has l (clauseAt (φ .clauses) b) || has (opposite l) (clauseAt (φ .clauses) b)) ≡ true
+unfolding strengthened someStrengthens strengthens partOf without
+marked φ x l b i e =
     let y = clauseAt (φ .clauses) b in
-    or-elim (eqb k (opposite l)) (not (eqb l k) && has k x) m
-    (λ e. let o : has (opposite l) y ≡ true = search (and-l, and-r) in rw (eqb-true k (opposite l) e) o)
-    (λ e. all-has (λ j. has j y) (keepIf (λ j. not (eqb l j)) x) k (search (and-l, and-r))
-    (has-keep (λ j. not (eqb l j)) x k (search and-r) (search and-l)))
+    let some : anyOf (strengthens (φ .prefix) x y) x ≡ true = search (and-l, and-r) in
+    let w = any-witness (strengthens (φ .prefix) x y) x some in
+    let s : strengthens (φ .prefix) x y (w .0) ≡ true = w .2 in
+    by-cases (eqb (w .0) l)
+    (λ q. let o : has (opposite (w .0)) y ≡ true = search (and-l, and-r) in
+    or-ir (has l y) (has (opposite l) y) (ap (λ (k : ℕ). has (opposite k) y) (sym (eqb-true (w .0) l q)) ∙ o))
+    (λ q. or-il (has l y) (has (opposite l) y)
+    (all-has (λ j. has j y) (keepIf (λ j. not (eqb (w .0) j)) x) l (search (and-l, and-r)) (has-keep (λ j. not (eqb (w .0) j)) x l i (ap not q))))
 
-pub strong-among : (φ : Formula) (a k : ℕ) (s : List ℕ) → s ≡ clausesWith (φ .clauses) k → (x : List ℕ) (l : ℕ) → marks x l k ≡ true
-    → (r : Found) → r ≡ foundAs (firstB (strengthensBy φ x l) a s) → r ≡ foundAs (firstB (strengthensBy φ x l) a (upFrom 0 (length (φ .clauses))))
-unfolding indices
-strong-among φ a k s is x l m r e = e ∙ ap foundAs (enough φ a k s is (strengthensBy φ x l) (λ b y. marked φ x l k b m y))
+has-up : (s n b : ℕ) → s ≤ b → b < s + n → has b (upFrom s n) ≡ true
+unfolding upFrom has anyOf
+has-up s zero b h k = absurd (omega arith)
+has-up s (suc n) b h k =
+    by-cases (eqb b s)
+    (λ q. or-il (eqb b s) (anyOf (λ i. eqb b i) (upFrom (suc s) n)) q)
+    (λ q. let d = eqb-false b s q in or-ir (eqb b s) (anyOf (λ i. eqb b i) (upFrom (suc s) n)) (has-up (suc s) n b (omega arith) (omega arith)))
 
--- All literals ---------------------------------------------------------------------------------------------------
-strong-any : (φ : Formula) (a b : ℕ) (x : List ℕ) → isClause (φ .clauses) a ≡ true → x ≡ getD (φ .clauses) a []
-    → strengthenPermitted φ a b ≡ anyOf (λ l. strengthensBy φ x l b) x
-unfolding strengthenPermitted strengthensBy clauseAt anyOf
-strong-any φ a b x k e = rw (k, ← e) (go (isClause (φ .clauses) b))
-  where
-    none-of : (l : List ℕ) → false ≡ anyOf (λ (_ : ℕ). false) l
-    none-of [] = refl
-    none-of (m ∷ l) = none-of l
+-- a clause with the literal is in the list of that
+listed : (φ : Formula) (l b : ℕ) → b < length (φ .clauses) → has l (clauseAt (φ .clauses) b) ≡ true → has b (clausesWith (φ .clauses) l) ≡ true
+unfolding clauseAt
+listed φ l b h e =
+    let cs = φ .clauses in
+    rw (with-kept cs l) (has-keep (λ i. has l (getD cs i [])) (upFrom 0 (length cs)) b (has-up 0 (length cs) b (omega arith) (omega arith)) e)
 
-    go : (s : Bool) → (s && anyOf (strengthens (φ .prefix) x (getD (φ .clauses) b [])) x)
-        ≡ anyOf (λ l. s && strengthens (φ .prefix) x (getD (φ .clauses) b []) l) x
-    go true = refl
-    go false = none-of x
+inside : (φ : Formula) (x : List ℕ) (b : ℕ) → strengthened φ x b ≡ true → b < length (φ .clauses)
+unfolding strengthened isClause
+inside φ x b e = ltb-true b (length (φ .clauses)) (search and-l)
 
-pub strong-whole : {φ : Formula} {t : List ℕ} {c : Counts} → Holds φ t c → (a : ℕ) → a < c .clauses → (x : List ℕ) → x ≡ getD (φ .clauses) a []
-    → byOne (strengthensBy φ x) a (length (φ .clauses)) x ≡ foundAs (firstFor φ strengthen a)
-unfolding firstFor permitted seconds usesB indices
-strong-whole {φ} {t} {c} h a k x e =
-    ap foundAs (first-same (λ b. anyOf (λ l. strengthensBy φ x l b) x) (strengthenPermitted φ a) a (upFrom 0 (length (φ .clauses)))
-    (λ b. sym (strong-any φ a b x (present h a k) e)))
+and-not : (a : Bool) → (a && false) ≡ false
+and-not true = refl
+and-not false = refl
+
+-- The lowest -----------------------------------------------------------------------------------------------------
+module _ {φ : Formula} {t : List ℕ} {c : Counts} (h : Holds φ t c) (a : ℕ) (k : a < c .clauses) where
+  module _ (x : List ℕ) (at-a : x ≡ getD (φ .clauses) a []) where
+    permitted-is : strengthenPermitted φ a ≡ strengthened φ x
+    unfolding strengthenPermitted strengthened someStrengthens clauseAt
+    permitted-is = fun-ext (λ b. rw (present h a k, ← at-a))
+
+    pub strong-empty : length x ≡ 0 → Lowest (strengthenPermitted φ a) (c .clauses) (c .clauses)
+    strong-empty z = rw permitted-is (lowest-none (strengthened φ x) (c .clauses) (λ b. none b x z))
+      where
+        none : (b : ℕ) (y : List ℕ) → length y ≡ 0 → strengthened φ y b ≡ false
+        none b [] q = unfold strengthened someStrengthens anyOf in and-not (isClause (φ .clauses) b)
+        none b (m ∷ y) q = absurd (omega arith)
+
+    -- u and v are the clauses with a literal of x and with its opposite
+    pub strong-lowest : (l o : ℕ) → has l x ≡ true → o ≡ opposite l → (u v : List ℕ) → u ≡ clausesWith (φ .clauses) l
+        → v ≡ clausesWith (φ .clauses) o → (best r : ℕ) → best ≡ lowest (strengthened φ x) (c .clauses) u → r ≡ lowest (strengthened φ x) best v
+        → Lowest (strengthenPermitted φ a) (c .clauses) r
+    strong-lowest l o i opp u v is-u is-v best r e f =
+        rw (permitted-is, f, e) (lowest-both (strengthened φ x) (c .clauses) u v all)
+      where
+        all : (b : ℕ) → strengthened φ x b ≡ true → (has b u || has b v) ≡ true
+        all b s =
+            let y = clauseAt (φ .clauses) b in
+            let in-cs = inside φ x b s in
+            or-elim (has l y) (has (opposite l) y) (marked φ x l b i s)
+            (λ q. or-il (has b u) (has b v) (rw is-u (listed φ l b in-cs q)))
+            (λ q. or-ir (has b u) (has b v) (rw (is-v, opp) (listed φ (opposite l) b in-cs q)))
+
+  pub strong-nothing : (r : ℕ) → Lowest (strengthenPermitted φ a) (c .clauses) r → c .clauses ≤ r → Nothing ≡ foundAs (firstFor φ strengthen a)
+  unfolding firstFor permitted seconds usesB indices
+  strong-nothing r low n = rw (← count-clauses h) (lowest-nothing (strengthenPermitted φ a) a (c .clauses) r low n)
+
+  pub strong-found : (r : ℕ) → Lowest (strengthenPermitted φ a) (c .clauses) r → r < c .clauses → Pair a r ≡ foundAs (firstFor φ strengthen a)
+  unfolding firstFor permitted seconds usesB indices
+  strong-found r low n = rw (← count-clauses h) (lowest-found (strengthenPermitted φ a) a (c .clauses) r low n)

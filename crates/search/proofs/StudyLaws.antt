@@ -6,11 +6,11 @@ use mathlib.Core.Bool.{true}
 use mathlib.Core.List.{List, []}
 use lib.ListN.{length, getD}
 use Rattle.meaning.specs.Formula.{Formula}
-use Rattle.meaning.specs.WellFormed.{ascends}
+use Rattle.meaning.specs.WellFormed.{ascends, wellFormed}
 use Rattle.rules.specs.Simplify.{clauseAt}
-use Rattle.table.specs.Table.{Held}
+use Rattle.table.specs.Table.{Holds, Held}
 use Rattle.table.specs.declared.Counts.{Counts}
-use Rattle.index.specs.Study.{Studied, Study}
+use Rattle.index.specs.Study.{Study}
 use Rattle.meaning.proofs.Parts.{ascends-of}
 use Rattle.rules.proofs.Permitted.{tidy-at}
 use Rattle.table.proofs.HoldLaws.{held}
@@ -25,8 +25,8 @@ module _ {t : List ℕ} {c : Counts} {ranks index : List ℕ} (s : Study t c ran
   study-ranks = ap length (s .studied .ranked) ∙ length-ranks (s .formula .prefix)
 
 -- the variables of its clauses ascend
-pub studied-rises : {φ : Formula} {t : List ℕ} {c : Counts} {ranks index : List ℕ} → Studied φ t c ranks index
+pub clause-rises : {φ : Formula} {t : List ℕ} {c : Counts} → Holds φ t c → wellFormed φ ≡ true
     → (a : ℕ) → a < c .clauses → (x : List ℕ) → x ≡ getD (φ .clauses) a [] → ascends x ≡ true
 unfolding clauseAt
-studied-rises {φ} {t} {c} {ranks} {index} s a k x e =
-    ap ascends e ∙ ascends-of (φ .prefix) (clauseAt (φ .clauses) a) (tidy-at φ (s .well) a (present (s .holds) a k))
+clause-rises {φ} {t} {c} h w a k x e =
+    ap ascends e ∙ ascends-of (φ .prefix) (clauseAt (φ .clauses) a) (tidy-at φ w a (present h a k))

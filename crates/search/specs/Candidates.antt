@@ -1,14 +1,12 @@
 -- The code's answer for a candidate of a kind, and for what it is made of.
 -- Assumes nothing.
-use Prim.Native.Nat.{ℕ}
+use Prim.Native.Nat.{ℕ, _≤_, _<_}
 use mathlib.Core.Path.{_≡_}
-use mathlib.Core.Bool.{Bool, true, _&&_, _||_, not, cond}
-use mathlib.Core.List.{List}
-use lib.Dec.{eqb, ltb}
-use lib.ListN.{getD}
-use Rattle.meaning.specs.Lists.{has}
-use Rattle.meaning.specs.Formula.{Formula, var, opposite, existential}
-use Rattle.meaning.specs.WellFormed.{ascends}
+use mathlib.Core.Bool.{Bool, true, false, _&&_, cond}
+use mathlib.Core.List.{List, foldl}
+use lib.Dec.{ltb}
+use Rattle.meaning.specs.Lists.{anyOf}
+use Rattle.meaning.specs.Formula.{Formula}
 use Rattle.rules.specs.Entry.{Kind}
 use Rattle.rules.specs.Simplify.{clauseAt, isClause, strengthens}
 use Rattle.rules.specs.Step.{permitted}
@@ -25,22 +23,25 @@ foundAs (found a b) = Pair a b
 unfoldable pub firstFor : Formula → Kind → ℕ → rules.Found
 firstFor φ k a = firstB (permitted φ k a) a (seconds φ k)
 
--- of two answers for the same a, the one with the lower b
-unfoldable pub lowerOf : Found → Found → Found
-lowerOf Nothing g = g
-lowerOf (Pair a b) Nothing = Pair a b
-lowerOf (Pair a b) (Pair c d) = cond (ltb d b) (Pair c d) (Pair a b)
+-- Kind 4, by the lowest b ---------------------------------------------------------------------------------------
+-- some literal of the clause x strengthens the clause y
+unfoldable pub someStrengthens : List ℕ → List ℕ → List ℕ → Bool
+someStrengthens p x y = anyOf (strengthens p x y) x
 
--- Kind 4, by one literal ---------------------------------------------------------------------------------------
--- there is a clause b, and the literal l of the clause x strengthens it
-unfoldable pub strengthensBy : Formula → List ℕ → ℕ → ℕ → Bool
-strengthensBy φ x l b = isClause (φ .clauses) b && strengthens (φ .prefix) x (clauseAt (φ .clauses) b) l
+-- there is a clause b, and some literal of the clause x strengthens it
+unfoldable pub strengthened : Formula → List ℕ → ℕ → Bool
+strengthened φ x b = isClause (φ .clauses) b && someStrengthens (φ .prefix) x (clauseAt (φ .clauses) b)
 
--- the literal of x at index i can strengthen: it is existential, and no other one of x is of its variable
-pub record Strong (φ : Formula) (x : List ℕ) (i : ℕ) : Type 0 where
-  pub exists : existential (φ .prefix) (var (getD x i 0)) ≡ true
-  pub rises : ascends x ≡ true
+-- the lower of the best so far and of b, where b passes the test
+unfoldable pub lowerIf : (ℕ → Bool) → ℕ → ℕ → ℕ
+lowerIf t best b = cond (ltb b best && t b) b best
 
--- what l strengthens has the literal k: the opposite of l, or another one of x
-unfoldable pub marks : List ℕ → ℕ → ℕ → Bool
-marks x l k = eqb k (opposite l) || (not (eqb l k) && has k x)
+-- the lowest of the best so far and of the numbers of the list that pass
+unfoldable pub lowest : (ℕ → Bool) → ℕ → List ℕ → ℕ
+lowest t best l = foldl (lowerIf t) best l
+
+-- r is the lowest number below n that passes, or n where none does
+pub record Lowest (t : ℕ → Bool) (n r : ℕ) : Type 0 where
+  pub within : r ≤ n
+  pub passes : r < n → t r ≡ true
+  pub least : (b : ℕ) → b < r → t b ≡ false

@@ -1,9 +1,12 @@
 // Kind 3, subsume: the lowest clause a that is a part of another, and the lowest of those.
 ghost use mathlib.Core.Path.{_≡_};
 ghost use Prim.Native.Nat.{ℕ, _<_};
-ghost use mathlib.Core.Bool.{false};
+ghost use mathlib.Core.Bool.{true, false};
+ghost use mathlib.Core.List.{[]};
+ghost use lib.ListN.{getD};
 ghost use Rattle.meaning.specs.Formula.{Formula};
 ghost use Rattle.meaning.specs.Game.{emptyClause};
+ghost use Rattle.meaning.specs.WellFormed.{wellFormed};
 ghost use Rattle.rules.specs.Entry as rules;
 ghost use Rattle.rules.specs.Simplify.{subsumePermitted};
 ghost use Rattle.rules.specs.Choice.{firstB, candidate};
@@ -11,21 +14,41 @@ ghost use Rattle.table.specs.Table.{Holds, Held};
 ghost use Rattle.index.specs.Index.{Indexes, Indexed};
 ghost use Rattle.search.specs.Candidates.{foundAs, firstFor};
 use crate::Found;
+use crate::merges::is_part;
 use crate::rarity::rarest;
 use index::clauses_with;
-use permits::subsume_permitted;
 use table::Counts;
 use table::clause_at;
 
-// The first of these clauses of which clause a is a part.
-fn first_subsumed(t: &[u16], c: Counts, a: usize, among: &[u16]) -> Found
+// Whether clause b is another one than a, and has all literals of x, which is clause a.
+fn is_subsumed(t: &[u16], c: Counts, x: &[u16], a: usize, b: usize) -> bool
     requires { ⌜ Held (now t) c ⌝ }
-    ensures { λ r. ⌜ ((φ : Formula) → Holds φ (now (t .entry)) c → r ≡ foundAs (firstB (subsumePermitted φ a) a (now (among .entry)))) ⌝ }
+    requires { ⌜ a < c .clauses ⌝ }
+    ensures { λ r. ⌜ ((φ : Formula) → Holds φ (now (t .entry)) c → wellFormed φ ≡ true → now (x .entry) ≡ getD (φ .clauses) a [] → r ≡ subsumePermitted φ a b) ⌝ }
+{
+    if c.clauses <= b {
+        return false;
+    }
+    if a == b {
+        return false;
+    }
+    let y = clause_at(t, c, b);
+    if y.len() < x.len() {
+        return false;
+    }
+    is_part(x, y)
+}
+
+// The first of these clauses of which x, which is clause a, is a part.
+fn first_subsumed(t: &[u16], c: Counts, x: &[u16], a: usize, among: &[u16]) -> Found
+    requires { ⌜ Held (now t) c ⌝ }
+    requires { ⌜ a < c .clauses ⌝ }
+    ensures { λ r. ⌜ ((φ : Formula) → Holds φ (now (t .entry)) c → wellFormed φ ≡ true → now (x .entry) ≡ getD (φ .clauses) a [] → r ≡ foundAs (firstB (subsumePermitted φ a) a (now (among .entry)))) ⌝ }
 {
     let mut i = 0;
     while i < among.len() {
         let b = among[i] as usize;
-        if subsume_permitted(t, c, a, b) {
+        if is_subsumed(t, c, x, a, b) {
             return Found::Pair(a, b);
         }
         i += 1;
@@ -40,12 +63,12 @@ fn subsumed_by(t: &[u16], c: Counts, index: &[u16], a: usize) -> Found
     requires { ⌜ a < c .clauses ⌝ }
     ensures { λ r. ⌜ ((φ : Formula) → Holds φ (now (t .entry)) c → Indexes φ (now (index .entry)) → emptyClause (φ .clauses) ≡ false → r ≡ foundAs (firstFor φ rules.subsume a)) ⌝ }
 {
-    let clause = clause_at(t, c, a);
-    if clause.len() == 0 {
+    let x = clause_at(t, c, a);
+    if x.len() == 0 {
         return Found::Nothing;
     }
-    let l = rarest(index, clause);
-    first_subsumed(t, c, a, clauses_with(index, l))
+    let l = rarest(index, x);
+    first_subsumed(t, c, x, a, clauses_with(index, l))
 }
 
 // No clause may be empty: then the formula is false, and no step is looked for.

@@ -3,16 +3,18 @@
 use Prim.Native.Nat.{ℕ, _≤_, _-_}
 use mathlib.Core.Path.{_≡_, refl}
 use native.Mathlib.Omega.{arith}
-use borrow.Author.Needs.{needs}
 use Rattle.meaning.specs.Formula.{Formula}
 use Rattle.rules.specs.Entry.{strengthen}
 use Rattle.rules.specs.Choice.{costly, firsts, candidate}
 use Rattle.index.specs.Study.{Studied}
 use Rattle.table.proofs.HoldLaws.{bounds}
 use Rattle.search.proofs.StudyLaws.{study-held}
+use Rattle.search.proofs.StrengthenLaws.{strong-nothing, strong-found}
 use Rattle.search.proofs.CandidateLaws.{candidateFrom, from-start, by-clause, walk-next, walk-found, walk-end}
+use borrow.Author.Needs.{needs}
 use Rattle.search.proofs.strengthening.find_strengthen.Statement.{statement}
 use Rattle.search.proofs.strengthening.find_strengthen.Tie as tie
+use Rattle.search.proofs.strengthening.strengthened_by.Reads as strengthened-by-reads
 
 abbrev Inv-loop : tie.InvT-loop
 Inv-loop t c ranks index a₀ a =
@@ -29,11 +31,17 @@ loop-holds c = (search needs, λ φ E s. from-start E φ strengthen refl)
 strengthened-by-requires : tie.Need-strengthened-by-requires Inv-loop μ-loop
 strengthened-by-requires c κs = search needs
 
-enum-told : tie.Need-enum-told Inv-loop μ-loop
-enum-told c = search needs
+returns : tie.Need-returns Inv-loop μ-loop
+unfolding firsts
+returns c =
+    let r = c .before .before in
+    let k = r .before .if1 .taken in
+    let l = r .before .before .before in
+    λ φ E s. walk-found (by-clause (s .holds) strengthen refl) E (l .loop .a) (l .loop .inv .1 φ E s) k _
+    (strong-found (s .holds) _ k _ (r .strengthened-by .ensures φ s) (c .if2 .taken)) _ _ refl
 
 add-a : tie.Need-add-a Inv-loop μ-loop
-add-a c = let b = bounds (study-held (c .before .before .before .before .before .before .before .before .before .pre)) in omega arith
+add-a c = let s = c .before .before .before .before .before .before .before .before .before in let b = bounds (study-held (s .pre)) in omega arith
 
 loop-less : tie.Need-loop-less Inv-loop μ-loop
 loop-less c = search needs
@@ -41,23 +49,13 @@ loop-less c = search needs
 loop-again : tie.Need-loop-again Inv-loop μ-loop
 unfolding firsts
 loop-again c =
-    let l = c .before .before .before .before .before in
-    let a = l .loop .a in (
+    let r = c .before .before in
+    let k = r .before .if1 .taken in
+    let l = r .before .before .before in (
       search needs,
-      λ φ E s. walk-next (by-clause (s .holds) strengthen refl) E a (l .loop .inv .1 φ E s) (omega arith) _
-          (c .before .before .strengthened-by .ensures φ s) (c .enum-told .given .1),
+      λ φ E s. walk-next (by-clause (s .holds) strengthen refl) E (l .loop .a) (l .loop .inv .1 φ E s) k _
+          (strong-nothing (s .holds) _ k _ (r .strengthened-by .ensures φ s) (c .if2 .left)) refl,
     )
-
-enum-told-2 : tie.Need-enum-told-2 Inv-loop μ-loop
-enum-told-2 c = search needs
-
-returns : tie.Need-returns Inv-loop μ-loop
-unfolding firsts
-returns c =
-    let l = c .before .before .before .before .before in
-    let a = l .loop .a in
-    λ φ E s. walk-found (by-clause (s .holds) strengthen refl) E a (l .loop .inv .1 φ E s) (omega arith) _
-    (c .before .before .strengthened-by .ensures φ s) _ _ (c .enum-told2 .given .1)
 
 returns-2 : tie.Need-returns-2 Inv-loop μ-loop
 unfolding firsts
@@ -73,10 +71,8 @@ find-strengthen-spec =
     μ-loop
     loop-holds
     strengthened-by-requires
-    enum-told
+    returns
     add-a
     loop-less
     loop-again
-    enum-told-2
-    returns
     returns-2)

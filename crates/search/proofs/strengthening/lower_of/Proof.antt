@@ -1,48 +1,27 @@
--- By the two answers, then by the numbers.
+-- By the numbers, then by the test.
 -- Assumes nothing.
+use Rattle.search.specs.Candidates.{strengthened}
+use Rattle.search.proofs.LowestLaws.{if-higher, if-passed, if-failed}
 use borrow.Author.Needs.{needs}
-use borrow.Author.Tests.{lt-ltb, le-ltb}
-use Rattle.search.specs.Candidates.{lowerOf}
 use Rattle.search.proofs.strengthening.lower_of.Statement.{statement}
 use Rattle.search.proofs.strengthening.lower_of.Tie as tie
-
-enum-known-f : tie.Need-enum-known-f
-enum-known-f c = search needs
-
-enum-told : tie.Need-enum-told
-enum-told c = search needs
+use Rattle.search.proofs.strengthening.is_strengthened.Reads as is-strengthened-reads
 
 returns : tie.Need-returns
-unfolding lowerOf
-returns c = rw (c .enum-told .given .1)
+returns c = λ φ h w q up. if-higher (strengthened φ _) _ _ (c .if1 .taken)
 
-enum-known-g : tie.Need-enum-known-g
-enum-known-g c = search needs
-
-enum-told-2 : tie.Need-enum-told-2
-enum-told-2 c = search needs
+is-strengthened-requires : tie.Need-is-strengthened-requires
+is-strengthened-requires c κs = search needs
 
 returns-2 : tie.Need-returns-2
-unfolding lowerOf
-returns-2 c = rw (c .before .before .before .f .given .1, c .enum-told2 .given .1)
+returns-2 c =
+    let s = c .before in
+    λ φ h w q up. if-passed (strengthened φ _) _ _ (s .before .if1 .left) _ (s .is-strengthened .ensures φ h w q up) (c .if2 .taken)
 
 returns-3 : tie.Need-returns-3
-unfolding lowerOf
-returns-3 c = let g = c .before .before in rw (g .before .before .before .f .given .1, g .g .given .1, lt-ltb _ _ (c .if1 .taken))
-
-returns-4 : tie.Need-returns-4
-unfolding lowerOf
-returns-4 c = let g = c .before .before in rw (g .before .before .before .f .given .1, g .g .given .1, le-ltb _ _ (c .if1 .left))
+returns-3 c =
+    let s = c .before in
+    λ φ h w q up. if-failed (strengthened φ _) _ _ (s .before .if1 .left) _ (s .is-strengthened .ensures φ h w q up) (c .if2 .left)
 
 pub lower-of-spec : {M : Type 1} → statement M
-lower-of-spec =
-    tie.close
-    (tie.spec
-    enum-known-f
-    enum-told
-    returns
-    enum-known-g
-    enum-told-2
-    returns-2
-    returns-3
-    returns-4)
+lower-of-spec = tie.close (tie.spec returns is-strengthened-requires returns-2 returns-3)

@@ -26,8 +26,8 @@ returns-2 : tie.Need-returns-2
 returns-2 c =
     let w = c .before in
     let r = w .before in
-    λ φ h x n. subsume-among φ _ _ _ (w .clauses-with .ensures φ x) _ (r .before .before .clause-at .ensures φ h) _
-    (r .rarest .ensures) (c .first-subsumed .ensures φ h)
+    λ φ h x n. let e = r .before .before .clause-at .ensures φ h in
+    subsume-among φ _ _ _ (w .clauses-with .ensures φ x) _ e _ (r .rarest .ensures) (c .first-subsumed .ensures φ h (x .well) e)
 
 pub subsumed-by-spec : {M : Type 1} → statement M
 subsumed-by-spec =

@@ -1,0 +1,75 @@
+-- The loop's invariant: the numbers that are left, from the lowest so far on, give the lowest of all.
+-- Assumes nothing.
+use Prim.Native.Nat.{_≤_, _-_}
+use mathlib.Core.Path.{_≡_, refl}
+use mathlib.Core.Bool.{true}
+use mathlib.Core.List.{foldl}
+use native.Mathlib.Omega.{arith}
+use lib.ListN.{length, drop}
+use Rattle.meaning.specs.Formula.{Formula}
+use Rattle.meaning.specs.WellFormed.{wellFormed, ascends}
+use Rattle.table.specs.Table.{Holds}
+use Rattle.table.specs.Ranks.{ranksOf}
+use Rattle.search.specs.Candidates.{strengthened, lowerIf, lowest}
+use Rattle.search.proofs.LowestLaws.{lowest-turn, lowest-end}
+use borrow.Author.Needs.{needs}
+use Rattle.search.proofs.strengthening.lowest_among.Statement.{statement}
+use Rattle.search.proofs.strengthening.lowest_among.Tie as tie
+use Rattle.search.proofs.strengthening.lower_of.Reads as lower-of-reads
+
+abbrev Inv-loop : tie.InvT-loop
+Inv-loop t c ranks x among best low₀ k₀ low k =
+    (k ≤ length among)
+    × ((φ : Formula) → Holds φ t c → wellFormed φ ≡ true → ranks ≡ ranksOf (φ .prefix) → ascends x ≡ true
+    → lowest (strengthened φ x) best among ≡ lowest (strengthened φ x) low (drop k among))
+
+abbrev μ-loop : tie.MeasureT-loop
+μ-loop t c ranks x among best low₀ k₀ low k = length among - k
+
+loop-holds : tie.Need-loop-holds Inv-loop μ-loop
+loop-holds c = (search needs, λ φ h w q up. refl)
+
+mul-lower-of : tie.Need-mul-lower-of Inv-loop μ-loop
+mul-lower-of c = search needs
+
+shared-slice-read-lower-of : tie.Need-shared-slice-read-lower-of Inv-loop μ-loop
+shared-slice-read-lower-of c = search needs
+
+cast-lower-of : tie.Need-cast-lower-of Inv-loop μ-loop
+cast-lower-of c = omega (arith, c .shared-slice-known5 .given (c .before .before .loop .k))
+
+lower-of-requires : tie.Need-lower-of-requires Inv-loop μ-loop
+lower-of-requires c κs = search needs
+
+add-k : tie.Need-add-k Inv-loop μ-loop
+add-k c = search needs
+
+loop-less : tie.Need-loop-less Inv-loop μ-loop
+loop-less c = search needs
+
+loop-again : tie.Need-loop-again Inv-loop μ-loop
+loop-again c =
+    let n = c .before .before in
+    let l = n .before .loop in (
+      search needs,
+      λ φ h w q up. lowest-turn (strengthened φ _) _ (l .k) (l .low) (l .inv .1 φ h w q up) (n .loop-test .taken) _ (c .lower-of .ensures φ h w q up),
+    )
+
+returns : tie.Need-returns Inv-loop μ-loop
+returns c = let l = c .before .loop in λ φ h w q up. lowest-end (strengthened φ _) _ (l .k) (l .low) (l .inv .1 φ h w q up) (c .loop-test .left)
+
+pub lowest-among-spec : {M : Type 1} → statement M
+lowest-among-spec =
+    tie.close
+    (tie.spec
+    Inv-loop
+    μ-loop
+    loop-holds
+    mul-lower-of
+    shared-slice-read-lower-of
+    cast-lower-of
+    lower-of-requires
+    add-k
+    loop-less
+    loop-again
+    returns)
