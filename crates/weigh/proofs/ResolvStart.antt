@@ -1,23 +1,23 @@
 -- Where weighing begins and ends: the counts without the variable, and the step's weight from its result's.
 -- Assumes nothing.
-use Prim.Native.Nat.{ℕ, _+_, _-_, _*_, _<_}
-use mathlib.Core.Path.{_≡_, sym, ap, _∙_}
-use mathlib.Core.Bool.{Bool, true, false, _&&_, not}
+use Prim.Native.Nat.{ℕ, _+_, _-_, _*_, _≤_, _<_}
+use mathlib.Core.Path.{_≡_, refl, sym, ap, _∙_}
+use mathlib.Core.Bool.{Bool, true, false, _&&_, not, cond}
 use mathlib.Core.List.{List, _∷_}
 use lib.ListN.{length, drop, length-append}
 use lib.Dec.{ltb, leb}
-use borrow.Author.Tests.{ltb-true, ltb-false}
+use borrow.Author.Tests.{le-ltb, ltb-true, ltb-false}
 use native.Mathlib.Omega.{arith}
 use Rattle.meaning.specs.Lists.{allOf}
-use Rattle.meaning.specs.Formula.{Formula, var, isVar, mentions, dropVar, plain, negated}
+use Rattle.meaning.specs.Formula.{Formula, var, isVar, mentions, dropVar, existential, plain, negated}
 use Rattle.meaning.specs.Tidy.{buildOn}
-use Rattle.meaning.specs.WellFormed.{goodPrefix, wellFormed, fits, literals}
+use Rattle.meaning.specs.WellFormed.{goodPrefix, wellFormed, fits, literals, weight}
 use Rattle.rules.specs.Eliminate.{withLit, fromUniversal, resolvePermitted}
 use Rattle.rules.specs.Entry.{resolve}
 use Rattle.rules.specs.Step.{permitted, resultOf}
 use Rattle.permits.specs.Places.{placeOf, sideWithin}
 use Rattle.permits.proofs.AndLaws.{and-second, and-none}
-use Rattle.permits.proofs.PlaceLaws.{entries-of, place-right}
+use Rattle.permits.proofs.PlaceLaws.{entries-of, large-out, place-right}
 use Rattle.permits.proofs.SideLaws.{resolve-large}
 use Rattle.index.specs.Study.{Studied}
 use Rattle.table.specs.Table.{countsOf}
@@ -33,6 +33,7 @@ use Rattle.meaning.proofs.Prefix.{exists-mentioned}
 use Rattle.rules.proofs.Permitted.{resolve-says}
 use Rattle.rules.proofs.Place.{place}
 use Rattle.table.proofs.HoldLaws.{holds-bounds, count-variables, count-clauses, count-literals}
+use Rattle.weigh.proofs.ResolvResult.{resolved-grows}
 use Rattle.weigh.proofs.ResolvSides.{stay-clauses, stay-literals}
 
 -- The condition, by its two sides ------------------------------------------------------------------------------------------
@@ -114,6 +115,35 @@ pub permitted-small : {φ : Formula} {t : List ℕ} {c : Counts} {ranks index : 
 permitted-small {φ} {t} {c} {ranks} {index} g a ok =
     by-cases (ltb a 1024) (λ t. ltb-true a 1024 t)
     (λ t. let h = ltb-false a 1024 t in clash ok (sym (resolve-large φ a (entries-of φ (g .well) (g .holds .fitting)) (omega arith))))
+
+-- an existential is in the prefix, and small
+module _ {φ : Formula} {t : List ℕ} {c : Counts} {ranks index : List ℕ} (g : Studied φ t c ranks index) (a : ℕ) (b : Bool)
+    (is : b ≡ existential (φ .prefix) a) where
+  pub existing-there : b ≡ true → mentions (φ .prefix) a ≡ true
+  existing-there e = exists-mentioned (φ .prefix) a (sym is ∙ e)
+
+  pub existing-small : b ≡ true → a < 1024
+  existing-small e =
+      by-cases (ltb a 1024) (λ t. ltb-true a 1024 t)
+      (λ t. let h = ltb-false a 1024 t in
+      clash (existing-there e) (large-out (φ .prefix) a (entries-of φ (g .well) (g .holds .fitting)) (omega arith)))
+
+  pub step-other : b ≡ false → (below : ℕ) → Over ≡ weighedStep below φ resolve a
+  unfolding weighedStep permitted resolvePermitted
+  step-other e below = rw (← is, e)
+
+-- what is left without the variable is no heavier than the result
+pub step-floor : (φ : Formula) → wellFormed φ ≡ true → (a below n : ℕ) → n ≡ weight (resolvedTo φ a 0) → below ≤ n
+    → Over ≡ weighedStep below φ resolve a
+unfolding weighedStep permitted weighed
+step-floor φ w a below n e h =
+    let o : ltb (weight (resultOf φ resolve a 0)) below ≡ false =
+    le-ltb (weight (resultOf φ resolve a 0)) below (omega (arith, resolved-grows φ w a 0)) in
+    rw o (either (resolvePermitted φ a))
+  where
+    either : (b : Bool) → Over ≡ cond b Over Over
+    either true = refl
+    either false = refl
 
 module _ (below : ℕ) (φ : Formula) (a : ℕ) (b : Bool) (is : b ≡ resolvePermitted φ a) where
   pub step-none : b ≡ false → Over ≡ weighedStep below φ resolve a

@@ -154,6 +154,7 @@ pub fn resolved_counts(
 }
 
 // What the result of resolving a would weigh, against a bound. The caller, who goes from variable to variable, knows the first universal.
+// What is left without the variable is looked at first: where that is not lighter than the bound, no result is.
 pub fn weigh_resolve(
     t: &[u16],
     c: Counts,
@@ -170,10 +171,16 @@ pub fn weigh_resolve(
     requires { ⌜ ((φ : Formula) → Studied φ (now t) c (now ranks) (now index) → FirstUniversal φ a n) ⌝ }
     ensures { λ r. ⌜ ((φ : Formula) → Studied φ (now (t .entry)) c (now (ranks .entry)) (now (index .entry)) → r ≡ weighedStep below φ resolve a) ⌝ }
 {
-    if may_resolve_within(t, c, ranks, index, a, n) {
+    if is_existential(ranks, a) {
         let d = counts_left(t, c, index, a);
-        let e = count_pairs(t, c, ranks, index, scratch, again, a, d, below);
-        return weigh_counts(e, below);
+        if below <= weight_of(d) {
+            return Weighed::Over;
+        }
+        if may_resolve_within(t, c, ranks, index, a, n) {
+            let e = count_pairs(t, c, ranks, index, scratch, again, a, d, below);
+            return weigh_counts(e, below);
+        }
+        return Weighed::Over;
     }
     Weighed::Over
 }
