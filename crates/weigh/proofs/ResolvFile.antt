@@ -2,28 +2,29 @@
 -- Assumes nothing.
 use Prim.Native.Nat.{ℕ, zero, suc, _+_, _*_, _/_, _%_, _≤_, _<_}
 use mathlib.Core.Path.{_≡_, refl, sym, ap, _∙_}
-use mathlib.Core.Bool.{true, _&&_, not}
+use mathlib.Core.Bool.{Bool, true, _&&_, not}
 use mathlib.Core.List.{List, [], _∷_, map}
 use lib.ListN.{length, getD}
 use lib.Dec.{ltb, leb}
 use borrow.Author.Tests.{ltb-true, le-leb}
 use native.Mathlib.Omega.{arith}
 use native.Mathlib.Nat.{not-suc-le-zero, le-of-suc-le-suc, mod-lt, mul-le-mul, div-lt-iff-lt-mul}
-use Rattle.meaning.specs.Lists.{allOf, has}
+use Rattle.meaning.specs.Lists.{allOf, keepIf, has}
 use Rattle.meaning.specs.Formula.{Formula, var, mentions, plain, negated}
-use Rattle.meaning.specs.WellFormed.{goodPrefix, bound, wellFormed, fits, maxVariables}
+use Rattle.meaning.specs.WellFormed.{ascends, tidyClause, goodPrefix, bound, wellFormed, fits, maxVariables}
 use Rattle.rules.specs.Eliminate.{withLit}
 use Rattle.table.specs.Table.{Held}
 use Rattle.table.specs.Pending.{inRange}
 use Rattle.table.specs.declared.Counts.{Counts}
 use Rattle.index.specs.Index.{clausesWith, Indexes, Indexed}
 use Rattle.index.specs.Study.{Studied, Study}
+use Rattle.weigh.specs.Merging.{Ordered}
 use Rattle.weigh.specs.Resolving.{Filed, File, rawResolvents, pairs, positiveAt, negativeAt}
 use Rattle.meaning.proofs.Weight.{keep-length}
 use Rattle.meaning.proofs.Basics.{and-l, and-r, and-i}
 use Rattle.meaning.proofs.Lists.{all-all, all-le, all-keep-le}
 use Rattle.meaning.proofs.Prefix.{bound-numbers}
-use Rattle.meaning.proofs.Parts.{room-of, good-of, bound-all}
+use Rattle.meaning.proofs.Parts.{room-of, good-of, tidy-of, ascends-of, bound-all}
 use Rattle.table.proofs.HoldLaws.{held}
 use Rattle.table.proofs.RankLaws.{length-ranks}
 use Rattle.index.proofs.ClauseLaws.{with-clauses, with-length, with-at}
@@ -116,26 +117,33 @@ clauses-range φ w f =
     (all-all (λ q. leb 1 (var q)) (λ q. leb (var q) maxVariables) (φ .prefix) (good-above (φ .prefix) (good-of φ w)) (room-of φ f .numbers)) b)
     (bound-all φ w)
 
+clauses-rise : (φ : Formula) → wellFormed φ ≡ true → allOf ascends (φ .clauses) ≡ true
+clauses-rise φ w = all-le (tidyClause (φ .prefix)) ascends (φ .clauses) (ascends-of (φ .prefix)) (tidy-of φ w)
+
 -- so too behind the last clause, where the empty one is read
-range-at : (cs : List (List ℕ)) (i : ℕ) → allOf (allOf inRange) cs ≡ true → allOf inRange (getD cs i []) ≡ true
+all-at : (f : List ℕ → Bool) (cs : List (List ℕ)) (i : ℕ) → f [] ≡ true → allOf f cs ≡ true → f (getD cs i []) ≡ true
 unfolding allOf
-range-at [] i h = refl
-range-at (c ∷ cs) zero h = and-l (allOf inRange c) (allOf (allOf inRange) cs) h
-range-at (c ∷ cs) (suc i) h = range-at cs i (and-r (allOf inRange c) (allOf (allOf inRange) cs) h)
+all-at f [] i e h = e
+all-at f (c ∷ cs) zero e h = and-l (f c) (allOf f cs) h
+all-at f (c ∷ cs) (suc i) e h = all-at f cs i e (and-r (f c) (allOf f cs) h)
 
 module _ {φ : Formula} {t : List ℕ} {c : Counts} {index : List ℕ} (f : Filed φ t c index) where
-  pub side-range : (l i : ℕ) → allOf inRange (getD (withLit l (φ .clauses)) i []) ≡ true
-  unfolding withLit
-  side-range l i =
-      range-at (withLit l (φ .clauses)) i (all-keep-le (allOf inRange) (has l) (φ .clauses) (clauses-range φ (f .indexes .well) (f .holds .fitting)))
+  pub side-ordered : (l i : ℕ) → Ordered (getD (withLit l (φ .clauses)) i [])
+  unfolding withLit allOf ascends
+  side-ordered l i =
+      record {
+        range = all-at (allOf inRange) (keepIf (has l) (φ .clauses)) i refl
+            (all-keep-le (allOf inRange) (has l) (φ .clauses) (clauses-range φ (f .indexes .well) (f .holds .fitting)));
+        rise = all-at ascends (keepIf (has l) (φ .clauses)) i refl (all-keep-le ascends (has l) (φ .clauses) (clauses-rise φ (f .indexes .well)));
+      }
 
-  pub positive-range : (a k : ℕ) (x : List ℕ) → x ≡ positiveAt φ a k → allOf inRange x ≡ true
+  pub positive-ordered : (a k : ℕ) (x : List ℕ) → x ≡ positiveAt φ a k → Ordered x
   unfolding positiveAt
-  positive-range a k x e = rw e (side-range (plain a) _)
+  positive-ordered a k x e = rw e (side-ordered (plain a) _)
 
-  pub negative-range : (a k : ℕ) (y : List ℕ) → y ≡ negativeAt φ a k → allOf inRange y ≡ true
+  pub negative-ordered : (a k : ℕ) (y : List ℕ) → y ≡ negativeAt φ a k → Ordered y
   unfolding negativeAt
-  negative-range a k y e = rw e (side-range (negated a) _)
+  negative-ordered a k y e = rw e (side-ordered (negated a) _)
 
 -- How many pairs there are -----------------------------------------------------------------------------------------------
 pub pairs-few : {φ : Formula} {index : List ℕ} → Indexes φ index → (a : ℕ) → pairs φ a ≤ 4190209

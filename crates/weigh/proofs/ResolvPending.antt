@@ -1,65 +1,25 @@
--- A raw clause in the scratch: all literals of a clause but one, and tidying in place.
+-- A raw clause in the scratch, tidied in place; and that a resolvent's literals are of its two clauses.
 -- Assumes nothing.
-use Prim.Native.Nat.{ℕ, _+_, _*_, _≤_, _<_}
+use Prim.Native.Nat.{ℕ, _+_, _*_}
 use mathlib.Core.Path.{_≡_, refl, sym, ap, _∙_}
 use mathlib.Core.Bool.{Bool, true, false, _||_, not, cond}
-use mathlib.Core.List.{List, [], _∷_, _++_, append-assoc, append-nil}
-use lib.ListN.{length, getD, take}
-use lib.Seq.{take-suc, take-all}
+use mathlib.Core.List.{List, _++_}
+use lib.ListN.{take}
 use lib.Dec.{eqb}
-use native.Mathlib.Numerals.{add-one}
-use Rattle.meaning.specs.Lists.{allOf, keepIf, has, same, without}
+use Rattle.meaning.specs.Lists.{allOf, has, same, without}
 use Rattle.meaning.specs.Formula.{plain, negated}
 use Rattle.meaning.specs.Tidy.{Tidied, ascending, bothPhases, stays, reduce, dropped, kept, tidySorted, tidy}
 use Rattle.meaning.specs.WellFormed.{goodPrefix}
 use Rattle.table.specs.Ranks.{ranksOf, reducedBy}
 use Rattle.table.specs.Pending.{Pends}
 use Rattle.table.specs.declared.Pending.{Pending}
+use Rattle.weigh.specs.Merging.{joined}
 use Rattle.weigh.specs.Resolving.{resolvent, becomes, covers, tidiedIn}
-use Rattle.meaning.proofs.Basics.{false-of, clash, eqb-eq, eqb-ne, or-il, or-ir, or-elim}
+use Rattle.meaning.proofs.Basics.{false-of, clash, or-il, or-ir, or-elim}
 use Rattle.meaning.proofs.Lists.{any-append, any-ascending, any-keep-le, same-path, all-of-has}
 use Rattle.table.proofs.SortLaws.{both-ascending}
 use Rattle.table.proofs.ReduceLaws.{reduce-is}
 use Rattle.table.proofs.PendingLaws.{small-pending}
-
--- All literals but one -------------------------------------------------------------------------------------------------
-without-append : (n : ℕ) (c d : List ℕ) → without n (c ++ d) ≡ without n c ++ without n d
-unfolding without keepIf
-without-append n [] d = refl
-without-append n (l ∷ c) d = go (not (eqb n l)) (without-append n c d)
-  where
-    go : (b : Bool) → without n (c ++ d) ≡ without n c ++ without n d
-        → cond b (l ∷ without n (c ++ d)) (without n (c ++ d)) ≡ cond b (l ∷ without n c) (without n c) ++ without n d
-    go true ih = ap (λ (r : List ℕ). l ∷ r) ih
-    go false ih = ih
-
-module _ (raw s : List ℕ) (p : Pending) (out : ℕ) where
-  pub left-out : (l : ℕ) → l ≡ out → Pends raw s p → Pends (raw ++ without out (l ∷ [])) s p
-  unfolding without keepIf
-  left-out l e h = rw (eqb-eq (sym e), append-nil raw) h
-
-  pub put-in : (l : ℕ) → (l ≡ out → ⊥) → Pends (raw ++ (l ∷ [])) s p → Pends (raw ++ without out (l ∷ [])) s p
-  unfolding without keepIf
-  put-in l e h = rw (eqb-ne out l (λ d. e (sym d))) h
-
-  module _ (clause : List ℕ) where
-    pub others-start : Pends raw s p → Pends (raw ++ without out (take 0 clause)) s p
-    unfolding without keepIf
-    others-start h = rw (append-nil raw) h
-
-    module _ (i : ℕ) where
-      pub others-turn : i < length clause → Pends ((raw ++ without out (take i clause)) ++ without out (getD clause i 0 ∷ [])) s p
-          → Pends (raw ++ without out (take (i + 1) clause)) s p
-      others-turn h k =
-          rw (
-            add-one i,
-            take-suc clause i 0 h,
-            without-append out (take i clause) (getD clause i 0 ∷ []),
-            ← append-assoc raw (without out (take i clause)) (without out (getD clause i 0 ∷ [])),
-          ) k
-
-      pub others-end : length clause ≤ i → Pends (raw ++ without out (take i clause)) s p → Pends (raw ++ without out clause) s p
-      others-end h k = rw (take-all i clause h) at k
 
 -- Tidying in place -----------------------------------------------------------------------------------------------------
 module _ {raw s : List ℕ} {p : Pending} (d : Pends raw s p) (q : List ℕ) where
@@ -86,9 +46,8 @@ module _ (s : List ℕ) (p : Pending) (x : Tidied) (is : tidiedIn s p ≡ x) (c 
   becomes-same e r q = rw (← is, e) q
 
 -- the two literals of a variable are left out
-pub pair-pends : (x y s : List ℕ) (p : Pending) (a l : ℕ) → l ≡ 2 * a → Pends (([] ++ without l x) ++ without (l + 1) y) s p
-    → Pends (resolvent a x y) s p
-unfolding resolvent plain negated
+pub pair-pends : (x y s : List ℕ) (p : Pending) (a l : ℕ) → l ≡ 2 * a → Pends (joined l (l + 1) x y) s p → Pends (resolvent a x y) s p
+unfolding resolvent joined plain negated
 pair-pends x y s p a l e h = rw e at h
 
 -- A resolvent's literals are of its two clauses ---------------------------------------------------------------------------

@@ -1,3 +1,4 @@
 pub mod Weights
 pub mod Resolving
+pub mod Merging
 pub mod Expanding

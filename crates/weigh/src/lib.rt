@@ -1,6 +1,7 @@
 // What the results of steps 6 and 7 would weigh, without building them.
 mod counts;
 mod expanding;
+mod merging;
 mod pairing;
 mod resolvents;
 mod resolving;

@@ -1,15 +1,15 @@
 // The pairs of a positive and a negative clause of step 6, by their numbers: what each adds to the result.
 ghost use mathlib.Core.Path.{_≡_};
 ghost use Prim.Native.Nat.{_+_, _≤_, _<_};
-ghost use mathlib.Core.Bool.{true, false};
+ghost use mathlib.Core.Bool.{false};
 ghost use lib.ListN.{length};
-ghost use Rattle.meaning.specs.Lists.{allOf, anyOf, same};
+ghost use Rattle.meaning.specs.Lists.{anyOf, same};
 ghost use Rattle.meaning.specs.Formula.{Formula, mentions, plain, negated};
 ghost use Rattle.rules.specs.Eliminate.{withLit};
 ghost use Rattle.table.specs.Table.{countsOf, clauseMore};
-ghost use Rattle.table.specs.Pending.{inRange};
 ghost use Rattle.index.specs.Index.{Indexes, Indexed};
 ghost use Rattle.index.specs.Study.{Studied, Study};
+ghost use Rattle.weigh.specs.Merging.{Ordered};
 ghost use Rattle.weigh.specs.Resolving.{Filed, File, pairs, positiveAt, negativeAt, resolventAt, resolvedTo, tidiedIn, anyGives, rowGives, cameBefore, Bounded};
 use crate::resolvents::fits_in;
 use crate::resolvents::gives;
@@ -85,7 +85,7 @@ fn any_gives(
     clause: &[u16],
 ) -> bool
     requires { ⌜ Study (now t) c (now ranks) (now index) ⌝ }
-    requires { ⌜ (length (now again) ≡ 1023) × (a < 1024) × (allOf inRange (now x) ≡ true) ⌝ }
+    requires { ⌜ (length (now again) ≡ 1023) × (a < 1024) × Ordered (now x) ⌝ }
     requires { ⌜ ((φ : Formula) → Indexes φ (now index) → m ≤ length (withLit (negated a) (φ .clauses))) ⌝ }
     ensures { λ r. ⌜ ((φ : Formula) → Studied φ (now (t .entry)) c (now (ranks .entry)) (now (index .entry)) → r ≡ anyGives φ a (now (x .entry)) m (now (clause .entry))) ⌝ }
 {

@@ -2,47 +2,21 @@
 ghost use mathlib.Core.Path.{_≡_};
 ghost use Prim.Native.Nat.{ℕ, _≤_, _<_};
 ghost use mathlib.Core.Bool.{true, _||_};
-ghost use mathlib.Core.List.{List, _∷_, [], _++_};
+ghost use mathlib.Core.List.{List};
 ghost use lib.ListN.{length};
-ghost use Rattle.meaning.specs.Lists.{allOf, has, without};
+ghost use Rattle.meaning.specs.Lists.{has};
 ghost use Rattle.meaning.specs.Tidy.{tidy};
 ghost use Rattle.meaning.specs.WellFormed.{goodPrefix};
 ghost use Rattle.table.specs.Ranks.{ranksOf, goodEntries};
-ghost use Rattle.table.specs.Pending.{inRange, Pends, Pended};
+ghost use Rattle.table.specs.Pending.{Pends, Pended};
+ghost use Rattle.weigh.specs.Merging.{Ordered};
 ghost use Rattle.weigh.specs.Resolving.{resolvent, covers, staysIn, fitsIn, becomes, tidiedIn};
+use crate::merging::merge_in;
 use permits::is_universal;
 use table::Pending;
 use table::contains;
 use table::equal;
-use table::put_literal;
 use table::reduce_in;
-
-// One literal more, unless it is the one to leave out.
-fn put_other(scratch: &mut [u16], p: Pending, out: u16, literal: u16) -> Pending
-    requires { ⌜ Pended (now scratch) p ⌝ }
-    requires { ⌜ (2 ≤ literal) × (literal < 2048) ⌝ }
-    ensures { λ r. ⌜ ((raw : List ℕ) → Pends raw (now (scratch .entry)) p → Pends (raw ++ without out (literal ∷ [])) (now (scratch .exit)) r) ⌝ }
-{
-    if literal == out {
-        return p;
-    }
-    put_literal(scratch, p, literal)
-}
-
-// All literals of a clause more, but one.
-fn put_without(scratch: &mut [u16], p: Pending, out: u16, clause: &[u16]) -> Pending
-    requires { ⌜ Pended (now scratch) p ⌝ }
-    requires { ⌜ allOf inRange (now clause) ≡ true ⌝ }
-    ensures { λ r. ⌜ ((raw : List ℕ) → Pends raw (now (scratch .entry)) p → Pends (raw ++ without out (now (clause .entry))) (now (scratch .exit)) r) ⌝ }
-{
-    let mut q = p;
-    let mut i = 0;
-    while i < clause.len() {
-        q = put_other(scratch, q, out, clause[i]);
-        i += 1;
-    }
-    q
-}
 
 // The raw clause is complete: it is tidied in the scratch, by the ranks of the prefix.
 fn tidy_in(scratch: &mut [u16], p: Pending, ranks: &[u16]) -> Pending
@@ -65,14 +39,12 @@ fn tidy_in(scratch: &mut [u16], p: Pending, ranks: &[u16]) -> Pending
 // The resolvent of x and y, tidied, in the scratch.
 pub fn resolve_pair(scratch: &mut [u16], x: &[u16], y: &[u16], a: usize, ranks: &[u16]) -> Pending
     requires { ⌜ (length (now scratch) ≡ 1023) × (a < 1024) × (length (now ranks) ≡ 1024) ⌝ }
-    requires { ⌜ (allOf inRange (now x) ≡ true) × (allOf inRange (now y) ≡ true) ⌝ }
+    requires { ⌜ Ordered (now x) × Ordered (now y) ⌝ }
     ensures { λ r. ⌜ r .size ≤ 1023 ⌝ }
     ensures { λ r. ⌜ ((q : List ℕ) → goodPrefix q ≡ true → now (ranks .entry) ≡ ranksOf q → tidiedIn (now (scratch .exit)) r ≡ tidy q (resolvent a (now (x .entry)) (now (y .entry)))) ⌝ }
 {
-    let literal = 2 * a as u16;
-    let p = put_without(scratch, Pending::empty(), literal, x);
-    let w = put_without(scratch, p, literal + 1, y);
-    tidy_in(scratch, w, ranks)
+    let p = merge_in(scratch, x, y, 2 * a as u16);
+    tidy_in(scratch, p, ranks)
 }
 
 // Whether the literal is in one of two clauses.
@@ -140,7 +112,7 @@ fn is_resolvent(
     clause: &[u16],
 ) -> bool
     requires { ⌜ (length (now scratch) ≡ 1023) × (a < 1024) × (length (now ranks) ≡ 1024) ⌝ }
-    requires { ⌜ (allOf inRange (now x) ≡ true) × (allOf inRange (now y) ≡ true) ⌝ }
+    requires { ⌜ Ordered (now x) × Ordered (now y) ⌝ }
     ensures { λ r. ⌜ ((q : List ℕ) → goodPrefix q ≡ true → now (ranks .entry) ≡ ranksOf q → r ≡ becomes (now (clause .entry)) (tidy q (resolvent a (now (x .entry)) (now (y .entry))))) ⌝ }
 {
     if covered(clause, x, y) {
@@ -164,7 +136,7 @@ pub fn gives(
     clause: &[u16],
 ) -> bool
     requires { ⌜ (length (now scratch) ≡ 1023) × (a < 1024) × (length (now ranks) ≡ 1024) ⌝ }
-    requires { ⌜ (allOf inRange (now x) ≡ true) × (allOf inRange (now y) ≡ true) ⌝ }
+    requires { ⌜ Ordered (now x) × Ordered (now y) ⌝ }
     ensures { λ r. ⌜ ((q : List ℕ) → goodEntries q ≡ true → now (ranks .entry) ≡ ranksOf q → r ≡ becomes (now (clause .entry)) (tidy q (resolvent a (now (x .entry)) (now (y .entry))))) ⌝ }
 {
     let out = 2 * a as u16 + 1;

@@ -12,7 +12,7 @@ use Rattle.rules.specs.Eliminate.{withLit}
 use Rattle.index.specs.Study.{Studied}
 use Rattle.index.proofs.ReadLaws.{studied-indexes}
 use Rattle.weigh.specs.Resolving.{resolvent, becomes, anyGives}
-use Rattle.weigh.proofs.ResolvFile.{filed-of, file-of, study-ranks, side-range}
+use Rattle.weigh.proofs.ResolvFile.{filed-of, file-of, study-ranks, side-ordered}
 use Rattle.weigh.proofs.ResolvRows.{partner-found, partner-turn, partner-end}
 use borrow.Author.Needs.{needs}
 use Rattle.weigh.proofs.pairing.any_gives.Statement.{statement}
@@ -54,7 +54,7 @@ gives-requires c κs =
     let g = s .pre .0 in
     let f = filed-of (g .studied) in (
       (l .loop .inv .1 ∙ s .pre .1 .0 .0, s .pre .1 .0 .1, study-ranks g),
-      (s .pre .1 .0 .2, rw (c .clause-with .ensures (g .formula) f) (side-range f _ (l .loop .j))),
+      (s .pre .1 .0 .2, rw (c .clause-with .ensures (g .formula) f) (side-ordered f _ (l .loop .j))),
     )
 
 same-length : tie.Need-same-length Inv-loop μ-loop

@@ -2,7 +2,7 @@
 -- Assumes nothing.
 use mathlib.Core.Path.{_∙_}
 use Rattle.meaning.proofs.Parts.{good-of}
-use Rattle.weigh.proofs.ResolvFile.{filed-of, file-of, study-ranks, positive-range, negative-range}
+use Rattle.weigh.proofs.ResolvFile.{filed-of, file-of, study-ranks, positive-ordered, negative-ordered}
 use Rattle.weigh.proofs.ResolvResult.{pair-made}
 use borrow.Author.Needs.{needs}
 use Rattle.weigh.proofs.pairing.resolvent_at.Statement.{statement}
@@ -22,8 +22,8 @@ resolve-pair-requires c κs =
     let f = filed-of (g .studied) in (
       (s .pre .1 .0, s .pre .1 .1, study-ranks g),
       (
-        positive-range f (s .args .a) (s .args .k) _ (n .before .positive-at .ensures (g .formula) f),
-        negative-range f (s .args .a) (s .args .k) _ (n .negative-at .ensures (g .formula) f),
+        positive-ordered f (s .args .a) (s .args .k) _ (n .before .positive-at .ensures (g .formula) f),
+        negative-ordered f (s .args .a) (s .args .k) _ (n .negative-at .ensures (g .formula) f),
       ),
     )
 

@@ -3,7 +3,7 @@
 use Rattle.meaning.specs.Formula.{plain}
 use Rattle.permits.proofs.PlaceLaws.{entries-of}
 use Rattle.index.proofs.ReadLaws.{studied-indexes}
-use Rattle.weigh.proofs.ResolvFile.{filed-of, file-of, study-ranks, side-range}
+use Rattle.weigh.proofs.ResolvFile.{filed-of, file-of, study-ranks, side-ordered}
 use Rattle.weigh.proofs.ResolvRows.{row-some, row-none}
 use borrow.Author.Needs.{needs}
 use Rattle.weigh.proofs.pairing.row_gives.Statement.{statement}
@@ -30,7 +30,7 @@ any-gives-requires c κs =
     let f = filed-of (g .studied) in (
       g,
       (
-        (s .pre .1 .0 .0, s .pre .1 .0 .1, rw (d .clause-with .ensures (g .formula) f) (side-range f _ (s .args .i))),
+        (s .pre .1 .0 .0, s .pre .1 .0 .1, rw (d .clause-with .ensures (g .formula) f) (side-ordered f _ (s .args .i))),
         λ φ h. s .pre .1 .1 φ h .1,
       ),
     )
