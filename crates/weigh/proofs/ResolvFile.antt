@@ -8,7 +8,8 @@ use lib.ListN.{length, getD}
 use lib.Dec.{ltb, leb}
 use borrow.Author.Tests.{ltb-true, le-leb}
 use native.Mathlib.Omega.{arith}
-use native.Mathlib.Nat.{not-suc-le-zero, le-of-suc-le-suc, mod-lt, mul-le-mul, div-lt-iff-lt-mul}
+use native.Mathlib.Nat.{not-suc-le-zero, le-of-suc-le-suc, zero-mul, suc-mul, mul-le-mul, div-lt-iff-lt-mul, div-eq-of-lt, mod-eq-of-lt, mul-add-div-right, mul-add-mod-self-right}
+use native.Mathlib.Numerals.{add-one}
 use Rattle.meaning.specs.Lists.{allOf, keepIf, has}
 use Rattle.meaning.specs.Formula.{Formula, var, mentions, plain, negated}
 use Rattle.meaning.specs.WellFormed.{ascends, tidyClause, goodPrefix, bound, wellFormed, fits, maxVariables}
@@ -19,7 +20,8 @@ use Rattle.table.specs.declared.Counts.{Counts}
 use Rattle.index.specs.Index.{clausesWith, Indexes, Indexed}
 use Rattle.index.specs.Study.{Studied, Study}
 use Rattle.weigh.specs.Merging.{Ordered}
-use Rattle.weigh.specs.Resolving.{Filed, File, rawResolvents, pairs, positiveAt, negativeAt}
+use Rattle.weigh.specs.Resolving.{Filed, File, rawResolvents, pairs, positiveAt, negativeAt, Placed, PairOf}
+use Rattle.weigh.specs.declared.pairing.Pair.{Pair}
 use Rattle.meaning.proofs.Weight.{keep-length}
 use Rattle.meaning.proofs.Basics.{and-l, and-r, and-i}
 use Rattle.meaning.proofs.Lists.{all-all, all-le, all-keep-le}
@@ -77,28 +79,64 @@ unfolding withLit
 listed-few {φ} {index} h l = omega (arith, keep-length (has l) (φ .clauses), room-of φ (h .fitting) .clauses)
 
 -- The clauses of a pair ----------------------------------------------------------------------------------------------------
-module _ (φ : Formula) (a k n : ℕ) (h : k < pairs φ a) (is : n ≡ length (withLit (2 * a + 1) (φ .clauses))) where
-  pub some-pairs : 0 < n
-  unfolding pairs rawResolvents negated
-  some-pairs = omega (arith, some-negative a (withLit (plain a) (φ .clauses)) (withLit (negated a) (φ .clauses)) k h)
+pub placed-first : (n : ℕ) → Placed n (record { number = 0; row = 0; column = 0 })
+placed-first n = record { whole = omega (arith, zero-mul n); inside = λ h. h }
 
-  pub positive-there : k / n < length (withLit (2 * a) (φ .clauses))
+module _ (n : ℕ) (p : Pair) (g : Placed n p) (some : 0 < n) where
+  -- the next in the row, or the first of the next row
+  pub placed-next : p .column + 1 < n → Placed n (record { number = p .number + 1; row = p .row; column = p .column + 1 })
+  placed-next h = record { whole = omega (arith, g .whole); inside = λ z. h }
+
+  pub placed-row : n ≤ p .column + 1 → Placed n (record { number = p .number + 1; row = p .row + 1; column = 0 })
+  placed-row h =
+      let e : (p .row + 1) * n ≡ p .row * n + n = rw add-one (suc-mul (p .row) n ∙ omega arith) in
+      record { whole = omega (arith, g .whole, g .inside some, e); inside = λ z. some }
+
+  row-is : p .number / n ≡ p .row
+  row-is = rw (g .whole, mul-add-div-right {m = n} some (p .row) (p .column), div-eq-of-lt (g .inside some)) (omega arith)
+
+  column-is : p .number % n ≡ p .column
+  column-is = rw (g .whole, mul-add-mod-self-right (p .row) n (p .column), mod-eq-of-lt (g .inside some))
+
+pub pair-of : (φ : Formula) (a n : ℕ) (p : Pair) → n ≡ length (withLit (2 * a + 1) (φ .clauses)) → p .number < pairs φ a → Placed n p
+    → PairOf φ a p
+unfolding negated
+pair-of φ a n p e h g = record { there = h; placed = rw (← e) g }
+
+module _ (φ : Formula) (a : ℕ) (p : Pair) (g : PairOf φ a p) where
+  pub some-pairs : 0 < length (withLit (2 * a + 1) (φ .clauses))
+  unfolding pairs rawResolvents negated
+  some-pairs = some-negative a (withLit (plain a) (φ .clauses)) (withLit (negated a) (φ .clauses)) (p .number) (g .there)
+
+  pub pair-whole : (n : ℕ) → n ≡ length (withLit (2 * a + 1) (φ .clauses)) → p .number ≡ p .row * n + p .column
+  unfolding negated
+  pair-whole n e = rw e (g .placed .whole)
+
+  pub pair-row : p .row ≡ p .number / length (withLit (2 * a + 1) (φ .clauses))
+  unfolding negated
+  pair-row = sym (row-is (length (withLit (2 * a + 1) (φ .clauses))) p (g .placed) some-pairs)
+
+  pub pair-column : p .column ≡ p .number % length (withLit (2 * a + 1) (φ .clauses))
+  unfolding negated
+  pair-column = sym (column-is (length (withLit (2 * a + 1) (φ .clauses))) p (g .placed) some-pairs)
+
+  pub positive-there : p .row < length (withLit (2 * a) (φ .clauses))
   unfolding pairs rawResolvents plain negated
   positive-there =
-      div-lt-iff-lt-mul some-pairs .1
-      (rw is (omega (arith, pairs-length a (withLit (plain a) (φ .clauses)) (withLit (negated a) (φ .clauses)))))
+      rw pair-row
+      (div-lt-iff-lt-mul some-pairs .1 (omega (arith, g .there, pairs-length a (withLit (plain a) (φ .clauses)) (withLit (negated a) (φ .clauses)))))
 
-  pub negative-there : k % n < length (withLit (2 * a + 1) (φ .clauses))
-  negative-there = omega (arith, mod-lt k some-pairs)
+  pub negative-there : p .column < length (withLit (2 * a + 1) (φ .clauses))
+  unfolding negated
+  negative-there = g .placed .inside some-pairs
 
-module _ (φ : Formula) (a k n : ℕ) (is : n ≡ length (withLit (2 * a + 1) (φ .clauses))) where
-  pub positive-is : getD (withLit (2 * a) (φ .clauses)) (k / n) [] ≡ positiveAt φ a k
+  pub positive-is : getD (withLit (2 * a) (φ .clauses)) (p .row) [] ≡ positiveAt φ a (p .number)
   unfolding positiveAt plain negated
-  positive-is = rw is
+  positive-is = ap (λ (i : ℕ). getD (withLit (2 * a) (φ .clauses)) i []) pair-row
 
-  pub negative-is : getD (withLit (2 * a + 1) (φ .clauses)) (k % n) [] ≡ negativeAt φ a k
+  pub negative-is : getD (withLit (2 * a + 1) (φ .clauses)) (p .column) [] ≡ negativeAt φ a (p .number)
   unfolding negativeAt plain negated
-  negative-is = rw is
+  negative-is = ap (λ (i : ℕ). getD (withLit (2 * a + 1) (φ .clauses)) i []) pair-column
 
 -- The literals of a pair are in range ------------------------------------------------------------------------------------
 good-above : (p : List ℕ) → goodPrefix p ≡ true → allOf (λ q. leb 1 (var q)) p ≡ true
@@ -136,14 +174,6 @@ module _ {φ : Formula} {t : List ℕ} {c : Counts} {index : List ℕ} (f : File
             (all-keep-le (allOf inRange) (has l) (φ .clauses) (clauses-range φ (f .indexes .well) (f .holds .fitting)));
         rise = all-at ascends (keepIf (has l) (φ .clauses)) i refl (all-keep-le ascends (has l) (φ .clauses) (clauses-rise φ (f .indexes .well)));
       }
-
-  pub positive-ordered : (a k : ℕ) (x : List ℕ) → x ≡ positiveAt φ a k → Ordered x
-  unfolding positiveAt
-  positive-ordered a k x e = rw e (side-ordered (plain a) _)
-
-  pub negative-ordered : (a k : ℕ) (y : List ℕ) → y ≡ negativeAt φ a k → Ordered y
-  unfolding negativeAt
-  negative-ordered a k y e = rw e (side-ordered (negated a) _)
 
 -- How many pairs there are -----------------------------------------------------------------------------------------------
 pub pairs-few : {φ : Formula} {index : List ℕ} → Indexes φ index → (a : ℕ) → pairs φ a ≤ 4190209

@@ -1,13 +1,13 @@
 -- The resolvents of the pairs, positive clause by positive clause.
 -- Assumes nothing.
-use Prim.Native.Nat.{ℕ, zero, suc, _+_, _-_, _*_, _/_, _%_, _≤_, _<_}
+use Prim.Native.Nat.{ℕ, zero, suc, _+_, _-_, _*_, _≤_, _<_}
 use mathlib.Core.Path.{_≡_, refl, sym, ap, _∙_}
 use mathlib.Core.Bool.{Bool, true, false, _||_}
 use mathlib.Core.List.{List, [], _∷_, _++_}
 use lib.ListN.{length, getD, take, drop, take-append-drop}
 use lib.Seq.{take-append-le, drop-append-add, take-add, drop-drop, take-nil, getD-take, length-take-le}
 use native.Mathlib.Omega.{arith}
-use native.Mathlib.Nat.{zero-mul, suc-mul, div-add-mod', mul-le-mul-right, not-suc-le-zero, le-of-suc-le-suc}
+use native.Mathlib.Nat.{zero-mul, suc-mul, mul-le-mul-right, not-suc-le-zero, le-of-suc-le-suc}
 use native.Mathlib.Numerals.{add-one}
 use Rattle.meaning.specs.Lists.{allOf, anyOf}
 use Rattle.meaning.specs.Formula.{Formula, mentions, plain, negated}
@@ -147,12 +147,12 @@ rows-start φ a k c =
     let e : k - 0 ≡ k = omega arith in
     rw (zero-mul (length (withLit (negated a) (φ .clauses))), e)
 
-module _ (φ : Formula) (a k n : ℕ) (is : n ≡ length (withLit (2 * a + 1) (φ .clauses))) (some : 0 < n) (c : List ℕ) (i : ℕ)
+module _ (φ : Formula) (a k n m j : ℕ) (is : n ≡ length (withLit (2 * a + 1) (φ .clauses))) (whole : k ≡ m * n + j) (c : List ℕ) (i : ℕ)
     (inv : cameBefore φ a k c ≡ rowsFrom φ a k i c) where
-  whole-row : i < k / n → (i + 1) * n ≤ k
-  whole-row h = omega (arith, div-add-mod' k n, mul-le-mul-right n h)
+  whole-row : i < m → (i + 1) * n ≤ k
+  whole-row h = omega (arith, mul-le-mul-right n h)
 
-  module _ (h : i < k / n) (b : Bool) (said : b ≡ rowGives φ a i n c) where
+  module _ (h : i < m) (b : Bool) (said : b ≡ rowGives φ a i n c) where
     pub rows-found : b ≡ true → true ≡ cameBefore φ a k c
     unfolding cameBefore rowsFrom rowGives negated
     rows-found t =
@@ -163,8 +163,8 @@ module _ (φ : Formula) (a k n : ℕ) (is : n ≡ length (withLit (2 * a + 1) (�
     rows-turn t =
         rw (← is) (row-turn (λ raw. becomes c (tidy (restOf φ a) raw)) (rawResolvents φ a) n k i (rw (← is) at inv) (whole-row h) b (rw (← is) at said) t)
 
-  pub rows-end : i ≡ k / n → (r : Bool) → r ≡ rowGives φ a (k / n) (k % n) c → r ≡ cameBefore φ a k c
+  pub rows-end : i ≡ m → (r : Bool) → r ≡ rowGives φ a m j c → r ≡ cameBefore φ a k c
   unfolding rowsFrom rowGives negated
   rows-end e r q =
-      let d : k - k / n * n ≡ k % n = omega (arith, div-add-mod' k n) in
+      let d : k - m * n ≡ j = omega arith in
       q ∙ sym (inv ∙ rw (e, ← is, d))

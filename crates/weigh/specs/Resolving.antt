@@ -15,6 +15,7 @@ use Rattle.table.specs.Table.{Holds, countsOf}
 use Rattle.table.specs.declared.Counts.{Counts}
 use Rattle.table.specs.declared.Pending.{Pending}
 use Rattle.index.specs.Index.{Indexes}
+use Rattle.weigh.specs.declared.pairing.Pair.{Pair}
 
 -- A formula in its table, and its index -----------------------------------------------------------------------------
 pub record Filed (φ : Formula) (t : List ℕ) (c : Counts) (index : List ℕ) : Type 0 where
@@ -84,6 +85,15 @@ rawResolvents φ a = resolvents a (withLit (plain a) (φ .clauses)) (withLit (ne
 
 unfoldable pub pairs : Formula → ℕ → ℕ
 pairs φ a = length (rawResolvents φ a)
+
+-- pair p, told by its number and by those of its clauses, where n clauses are negative
+pub record Placed (n : ℕ) (p : Pair) : Type 0 where
+  pub whole : p .number ≡ p .row * n + p .column
+  pub inside : 0 < n → p .column < n
+
+pub record PairOf (φ : Formula) (a : ℕ) (p : Pair) : Type 0 where
+  pub there : p .number < pairs φ a
+  pub placed : Placed (length (withLit (negated a) (φ .clauses))) p
 
 -- The result, step by step -------------------------------------------------------------------------------------------
 -- the result with the first k resolvents only

@@ -1,6 +1,6 @@
 // The pairs of a positive and a negative clause of step 6, by their numbers: what each adds to the result.
 ghost use mathlib.Core.Path.{_≡_};
-ghost use Prim.Native.Nat.{_+_, _≤_, _<_};
+ghost use Prim.Native.Nat.{ℕ, _+_, _≤_, _<_};
 ghost use mathlib.Core.Bool.{false};
 ghost use lib.ListN.{length};
 ghost use Rattle.meaning.specs.Lists.{anyOf, same};
@@ -10,7 +10,7 @@ ghost use Rattle.table.specs.Table.{countsOf, clauseMore};
 ghost use Rattle.index.specs.Index.{Indexes, Indexed};
 ghost use Rattle.index.specs.Study.{Studied, Study};
 ghost use Rattle.weigh.specs.Merging.{Ordered};
-ghost use Rattle.weigh.specs.Resolving.{Filed, File, pairs, positiveAt, negativeAt, resolventAt, resolvedTo, tidiedIn, anyGives, rowGives, cameBefore, Bounded};
+ghost use Rattle.weigh.specs.Resolving.{pairs, Placed, PairOf, resolventAt, resolvedTo, tidiedIn, anyGives, rowGives, cameBefore, Bounded};
 use crate::resolvents::fits_in;
 use crate::resolvents::gives;
 use crate::resolvents::resolve_pair;
@@ -20,26 +20,42 @@ use crate::sides::is_clause;
 use table::Counts;
 use table::Pending;
 
-// The positive clause of pair k.
-fn positive_at<'a>(t: &'a [u16], c: Counts, index: &[u16], a: usize, k: usize) -> &'a [u16]
-    requires { ⌜ File (now t) c (now index) ⌝ }
-    requires { ⌜ (a < 1024) × ((φ : Formula) → Indexes φ (now index) → k < pairs φ a) ⌝ }
-    ensures { λ r. ⌜ ((φ : Formula) → Filed φ (now (t .entry)) c (now (index .entry)) → now r ≡ positiveAt φ a k) ⌝ }
-{
-    let literal = 2 * a as u16;
-    let n = count_with(index, literal + 1);
-    clause_with(t, c, index, literal, k / n)
+// A pair by its number, and by the numbers of its clauses among the positive and among the negative ones.
+pub struct Pair {
+    pub number: usize,
+    pub row: usize,
+    pub column: usize,
 }
 
-// The negative clause of pair k.
-fn negative_at<'a>(t: &'a [u16], c: Counts, index: &[u16], a: usize, k: usize) -> &'a [u16]
-    requires { ⌜ File (now t) c (now index) ⌝ }
-    requires { ⌜ (a < 1024) × ((φ : Formula) → Indexes φ (now index) → k < pairs φ a) ⌝ }
-    ensures { λ r. ⌜ ((φ : Formula) → Filed φ (now (t .entry)) c (now (index .entry)) → now r ≡ negativeAt φ a k) ⌝ }
+// The first pair.
+pub fn first_pair() -> Pair
+    ensures { λ r. ⌜ (r .number ≡ 0) × ((n : ℕ) → Placed n r) ⌝ }
 {
-    let literal = 2 * a as u16 + 1;
-    let n = count_with(index, literal);
-    clause_with(t, c, index, literal, k % n)
+    Pair {
+        number: 0,
+        row: 0,
+        column: 0,
+    }
+}
+
+// The next one, where so many clauses are negative.
+pub fn next_pair(p: Pair, width: usize) -> Pair
+    requires { ⌜ Placed width p × (0 < width) ⌝ }
+    requires { ⌜ (p .number < 5000000) × (p .row < 5000000) ⌝ }
+    ensures { λ r. ⌜ (r .number ≡ p .number + 1) × Placed width r ⌝ }
+{
+    if p.column + 1 < width {
+        return Pair {
+            number: p.number + 1,
+            row: p.row,
+            column: p.column + 1,
+        };
+    }
+    Pair {
+        number: p.number + 1,
+        row: p.row + 1,
+        column: 0,
+    }
 }
 
 // How many pairs there are.
@@ -52,7 +68,7 @@ pub fn pair_count(index: &[u16], a: usize) -> usize
     count_with(index, literal) * count_with(index, literal + 1)
 }
 
-// The resolvent of pair k, tidied, in the scratch.
+// The resolvent of a pair, tidied, in the scratch.
 fn resolvent_at(
     t: &[u16],
     c: Counts,
@@ -60,15 +76,16 @@ fn resolvent_at(
     index: &[u16],
     scratch: &mut [u16],
     a: usize,
-    k: usize,
+    p: Pair,
 ) -> Pending
     requires { ⌜ Study (now t) c (now ranks) (now index) ⌝ }
-    requires { ⌜ (length (now scratch) ≡ 1023) × (a < 1024) × ((φ : Formula) → Indexes φ (now index) → k < pairs φ a) ⌝ }
+    requires { ⌜ (length (now scratch) ≡ 1023) × (a < 1024) × ((φ : Formula) → Indexes φ (now index) → PairOf φ a p) ⌝ }
     ensures { λ r. ⌜ r .size ≤ 1023 ⌝ }
-    ensures { λ r. ⌜ ((φ : Formula) → Studied φ (now (t .entry)) c (now (ranks .entry)) (now (index .entry)) → tidiedIn (now (scratch .exit)) r ≡ resolventAt φ a k) ⌝ }
+    ensures { λ r. ⌜ ((φ : Formula) → Studied φ (now (t .entry)) c (now (ranks .entry)) (now (index .entry)) → tidiedIn (now (scratch .exit)) r ≡ resolventAt φ a (p .number)) ⌝ }
 {
-    let x = positive_at(t, c, index, a, k);
-    let y = negative_at(t, c, index, a, k);
+    let literal = 2 * a as u16;
+    let x = clause_with(t, c, index, literal, p.row);
+    let y = clause_with(t, c, index, literal + 1, p.column);
     resolve_pair(scratch, x, y, a, ranks)
 }
 
@@ -132,8 +149,8 @@ fn row_gives(
     false
 }
 
-// Whether one of the first k resolvents is the clause: those of each positive clause, then those of the one that pair k has, as far as these
-// came.
+// Whether one of the resolvents before the pair's is the clause: those of each positive clause before, then those of the pair's own, as far as
+// these came.
 fn came_before(
     t: &[u16],
     c: Counts,
@@ -141,15 +158,15 @@ fn came_before(
     index: &[u16],
     again: &mut [u16],
     a: usize,
-    k: usize,
+    p: Pair,
     clause: &[u16],
 ) -> bool
     requires { ⌜ Study (now t) c (now ranks) (now index) ⌝ }
-    requires { ⌜ (length (now again) ≡ 1023) × (a < 1024) × ((φ : Formula) → Indexes φ (now index) → k < pairs φ a) ⌝ }
-    ensures { λ r. ⌜ ((φ : Formula) → Studied φ (now (t .entry)) c (now (ranks .entry)) (now (index .entry)) → r ≡ cameBefore φ a k (now (clause .entry))) ⌝ }
+    requires { ⌜ (length (now again) ≡ 1023) × (a < 1024) × ((φ : Formula) → Indexes φ (now index) → PairOf φ a p) ⌝ }
+    ensures { λ r. ⌜ ((φ : Formula) → Studied φ (now (t .entry)) c (now (ranks .entry)) (now (index .entry)) → r ≡ cameBefore φ a (p .number) (now (clause .entry))) ⌝ }
 {
     let n = count_with(index, 2 * a as u16 + 1);
-    let last = k / n;
+    let last = p.row;
     let mut i = 0;
     while i < last {
         if row_gives(t, c, ranks, index, again, a, i, n, clause) {
@@ -157,10 +174,10 @@ fn came_before(
         }
         i += 1;
     }
-    row_gives(t, c, ranks, index, again, a, last, k % n, clause)
+    row_gives(t, c, ranks, index, again, a, last, p.column, clause)
 }
 
-// Whether the clause, which does not have the variable, is there after the first k pairs.
+// Whether the clause, which does not have the variable, is there after the pairs before this one.
 fn is_there(
     t: &[u16],
     c: Counts,
@@ -168,17 +185,17 @@ fn is_there(
     index: &[u16],
     again: &mut [u16],
     a: usize,
-    k: usize,
+    p: Pair,
     clause: &[u16],
 ) -> bool
     requires { ⌜ Study (now t) c (now ranks) (now index) ⌝ }
-    requires { ⌜ (length (now again) ≡ 1023) × (a < 1024) × ((φ : Formula) → Indexes φ (now index) → k < pairs φ a) ⌝ }
-    ensures { λ r. ⌜ ((φ : Formula) → Studied φ (now (t .entry)) c (now (ranks .entry)) (now (index .entry)) → mentions (now (clause .entry)) a ≡ false → r ≡ anyOf (same (now (clause .entry))) (resolvedTo φ a k .clauses)) ⌝ }
+    requires { ⌜ (length (now again) ≡ 1023) × (a < 1024) × ((φ : Formula) → Indexes φ (now index) → PairOf φ a p) ⌝ }
+    ensures { λ r. ⌜ ((φ : Formula) → Studied φ (now (t .entry)) c (now (ranks .entry)) (now (index .entry)) → mentions (now (clause .entry)) a ≡ false → r ≡ anyOf (same (now (clause .entry))) (resolvedTo φ a (p .number) .clauses)) ⌝ }
 {
     if is_clause(t, c, index, clause) {
         return true;
     }
-    came_before(t, c, ranks, index, again, a, k, clause)
+    came_before(t, c, ranks, index, again, a, p, clause)
 }
 
 // The counts with a clause of so many literals more, whether it fits or not.
@@ -195,7 +212,7 @@ fn with_more(d: Counts, size: usize) -> Counts
     }
 }
 
-// The counts after pair k, from those before it.
+// The counts after the pair, from those before it.
 pub fn add_pair(
     t: &[u16],
     c: Counts,
@@ -204,21 +221,21 @@ pub fn add_pair(
     scratch: &mut [u16],
     again: &mut [u16],
     a: usize,
-    k: usize,
+    p: Pair,
     d: Counts,
 ) -> Counts
     requires { ⌜ Study (now t) c (now ranks) (now index) ⌝ }
-    requires { ⌜ (length (now scratch) ≡ 1023) × (length (now again) ≡ 1023) × (a < 1024) × ((φ : Formula) → Indexes φ (now index) → k < pairs φ a) ⌝ }
-    requires { ⌜ Bounded k d ⌝ }
-    ensures { λ r. ⌜ Bounded (k + 1) r ⌝ }
-    ensures { λ r. ⌜ ((φ : Formula) → Studied φ (now (t .entry)) c (now (ranks .entry)) (now (index .entry)) → d ≡ countsOf (resolvedTo φ a k) (d .second) → r ≡ countsOf (resolvedTo φ a (k + 1)) (r .second)) ⌝ }
+    requires { ⌜ (length (now scratch) ≡ 1023) × (length (now again) ≡ 1023) × (a < 1024) × ((φ : Formula) → Indexes φ (now index) → PairOf φ a p) ⌝ }
+    requires { ⌜ Bounded (p .number) d ⌝ }
+    ensures { λ r. ⌜ Bounded (p .number + 1) r ⌝ }
+    ensures { λ r. ⌜ ((φ : Formula) → Studied φ (now (t .entry)) c (now (ranks .entry)) (now (index .entry)) → d ≡ countsOf (resolvedTo φ a (p .number)) (d .second) → r ≡ countsOf (resolvedTo φ a (p .number + 1)) (r .second)) ⌝ }
 {
-    let p = resolvent_at(t, c, ranks, index, scratch, a, k);
-    if p.both {
+    let r = resolvent_at(t, c, ranks, index, scratch, a, p);
+    if r.both {
         return d;
     }
-    let m = p.size;
-    if is_there(t, c, ranks, index, again, a, k, &scratch[..m]) {
+    let m = r.size;
+    if is_there(t, c, ranks, index, again, a, p, &scratch[..m]) {
         return d;
     }
     with_more(d, m)

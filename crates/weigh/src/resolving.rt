@@ -16,6 +16,8 @@ ghost use Rattle.weigh.specs.Resolving.{Filed, File, resolvedTo, Bounded
 use crate::Weighed;
 use crate::counts::weight_of;
 use crate::pairing::add_pair;
+use crate::pairing::first_pair;
+use crate::pairing::next_pair;
 use crate::pairing::pair_count;
 use crate::sides::count_with;
 use crate::sides::side_near;
@@ -84,14 +86,15 @@ fn count_pairs(
     ensures { λ r. ⌜ ((φ : Formula) → Studied φ (now (t .entry)) c (now (ranks .entry)) (now (index .entry)) → d ≡ countsOf (resolvedTo φ a 0) (d .second) → CountedTo φ a below r) ⌝ }
 {
     let n = pair_count(index, a);
+    let width = count_with(index, 2 * a as u16 + 1);
     let mut e = d;
-    let mut k = 0;
-    while k < n {
+    let mut p = first_pair();
+    while p.number < n {
         if below <= weight_of(e) {
             return e;
         }
-        e = add_pair(t, c, ranks, index, scratch, again, a, k, e);
-        k += 1;
+        e = add_pair(t, c, ranks, index, scratch, again, a, p, e);
+        p = next_pair(p, width);
     }
     e
 }

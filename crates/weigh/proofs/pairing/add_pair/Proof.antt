@@ -21,7 +21,7 @@ returns c =
     let r = c .before .before .before in
     let s = r .before .before .before .before .before .before .before in (
       bounded-next (s .pre .1 .1),
-      λ φ g e. next-dropped φ (g .well) (s .args .a) (s .args .k) (s .pre .1 .0 .3 φ (studied-indexes g)) _ e _ _
+      λ φ g e. next-dropped φ (g .well) (s .args .a) (s .args .p .number) (s .pre .1 .0 .3 φ (studied-indexes g) .there) _ e _ _
           (r .resolvent-at .ensures .1 φ g) (c .if1 .taken),
     )
 
@@ -50,9 +50,9 @@ returns-2 c =
     let r = o .before .before .before in
     let s = r .before .before .before .before .before .before .before in (
       bounded-next (s .pre .1 .1),
-      λ φ g e. let h = s .pre .1 .0 .3 φ (studied-indexes g) in let m = r .resolvent-at .ensures .1 φ g in
-          next-there φ (g .well) (s .args .a) (s .args .k) h _ e _ _ m (o .if1 .left) _
-          (t .is-there .ensures φ g (kept-free φ (g .well) (s .args .a) (s .args .k) h _ e _ _ m (o .if1 .left))) (c .if2 .taken),
+      λ φ g e. let h = s .pre .1 .0 .3 φ (studied-indexes g) .there in let m = r .resolvent-at .ensures .1 φ g in
+          next-there φ (g .well) (s .args .a) (s .args .p .number) h _ e _ _ m (o .if1 .left) _
+          (t .is-there .ensures φ g (kept-free φ (g .well) (s .args .a) (s .args .p .number) h _ e _ _ m (o .if1 .left))) (c .if2 .taken),
     )
 
 with-more-requires : tie.Need-with-more-requires
@@ -61,7 +61,7 @@ with-more-requires c κs =
     let r = t .before .before .before .before .before .before in
     let s = r .before .before .before .before .before .before .before in
     let i = study-indexed (s .pre .0) in (
-      bounded-up (s .pre .1 .1) 5000000 (omega (arith, s .pre .1 .0 .3 (i .formula) (i .indexes), pairs-few (i .indexes) (s .args .a))),
+      bounded-up (s .pre .1 .1) 5000000 (omega (arith, s .pre .1 .0 .3 (i .formula) (i .indexes) .there, pairs-few (i .indexes) (s .args .a))),
       r .resolvent-at .ensures .0,
     )
 
@@ -79,9 +79,9 @@ returns-3 c =
     let s = r .before .before .before .before .before .before .before in
     rw (c .with-more .ensures) (
       bounded-more (s .pre .1 .1) _ (r .resolvent-at .ensures .0),
-      λ φ g e. let h = s .pre .1 .0 .3 φ (studied-indexes g) in let m = r .resolvent-at .ensures .1 φ g in
-          next-new φ (g .well) (s .args .a) (s .args .k) h _ e _ _ m (o .if1 .left) _
-          (t .is-there .ensures φ g (kept-free φ (g .well) (s .args .a) (s .args .k) h _ e _ _ m (o .if1 .left))) (c .before .if2 .left)
+      λ φ g e. let h = s .pre .1 .0 .3 φ (studied-indexes g) .there in let m = r .resolvent-at .ensures .1 φ g in
+          next-new φ (g .well) (s .args .a) (s .args .p .number) h _ e _ _ m (o .if1 .left) _
+          (t .is-there .ensures φ g (kept-free φ (g .well) (s .args .a) (s .args .p .number) h _ e _ _ m (o .if1 .left))) (c .before .if2 .left)
           (omega (arith, r .resolvent-at .ensures .0, r .resolvent-at .kept .1 .1 .1 .1 .0, s .pre .1 .0 .0)),
     )
 

@@ -8,19 +8,19 @@ use Rattle.meaning.specs.Formula.{Formula, plain, negated}
 use Rattle.index.specs.Study.{Studied}
 use Rattle.index.proofs.ReadLaws.{studied-indexes, study-indexed}
 use Rattle.weigh.specs.Resolving.{cameBefore}
-use Rattle.weigh.proofs.ResolvFile.{listed-few, some-pairs, positive-there, negative-there}
+use Rattle.weigh.proofs.ResolvFile.{listed-few, pair-whole, positive-there, negative-there}
 use Rattle.weigh.proofs.ResolvRows.{rowsFrom, rows-start, rows-found, rows-turn, rows-end}
 use borrow.Author.Needs.{needs}
 use Rattle.weigh.proofs.pairing.came_before.Statement.{statement}
 use Rattle.weigh.proofs.pairing.came_before.Tie as tie
 
 abbrev Inv-loop : tie.InvT-loop
-Inv-loop t c ranks index again₀ a k clause n last i₀ again i =
+Inv-loop t c ranks index again₀ a p clause n last i₀ again i =
     (i ≤ last) × (length again ≡ length again₀)
-    × ((φ : Formula) → Studied φ t c ranks index → cameBefore φ a k clause ≡ rowsFrom φ a k i clause)
+    × ((φ : Formula) → Studied φ t c ranks index → cameBefore φ a (p .number) clause ≡ rowsFrom φ a (p .number) i clause)
 
 abbrev μ-loop : tie.MeasureT-loop
-μ-loop t c ranks index again₀ a k clause n last i₀ again i = last - i
+μ-loop t c ranks index again₀ a p clause n last i₀ again i = last - i
 
 cast-count-with : tie.Need-cast-count-with Inv-loop μ-loop
 cast-count-with c = search needs
@@ -33,16 +33,6 @@ add-count-with c = search needs
 
 count-with-requires : tie.Need-count-with-requires Inv-loop μ-loop
 count-with-requires c κs = study-indexed (c .before .before .before .before .before .pre .0)
-
-div-last : tie.Need-div-last Inv-loop μ-loop
-div-last c =
-    let s = c .before .before .before .before .before .before in
-    let i = study-indexed (s .pre .0) in
-    omega (
-      arith,
-      some-pairs (i .formula) (s .args .a) (s .args .k) _ (s .pre .1 .2 (i .formula) (i .indexes))
-          (c .count-with .ensures (i .formula) (i .indexes)),
-    )
 
 loop-holds : tie.Need-loop-holds Inv-loop μ-loop
 loop-holds c = (omega arith, refl, λ φ g. rows-start φ _ _ _)
@@ -58,7 +48,7 @@ row-gives-requires c κs =
       (
         (l .loop .inv .1 ∙ s .pre .1 .0, s .pre .1 .1),
         λ φ h. let e = n .count-with .ensures φ h in
-            (omega (arith, i .loop-test .taken, positive-there φ (s .args .a) (s .args .k) _ (s .pre .1 .2 φ h) e), omega (arith, e)),
+            (omega (arith, i .loop-test .taken, positive-there φ (s .args .a) (s .args .p) (s .pre .1 .2 φ h)), omega (arith, e)),
       ),
     )
 
@@ -72,7 +62,7 @@ returns c =
     let n = l .before in
     let s = n .before .before .before .before .before .before in
     λ φ d. let x = studied-indexes d in let e = n .count-with .ensures φ x in
-    rows-found φ (s .args .a) (s .args .k) _ e (some-pairs φ (s .args .a) (s .args .k) _ (s .pre .1 .2 φ x) e) _ (l .loop .i) (l .loop .inv .2 φ d)
+    rows-found φ (s .args .a) (s .args .p .number) _ (s .args .p .row) (s .args .p .column) e (pair-whole φ (s .args .a) (s .args .p) (s .pre .1 .2 φ x) _ e) _ (l .loop .i) (l .loop .inv .2 φ d)
     (g .before .before .loop-test .taken) _ (g .row-gives .ensures φ d) (c .if1 .taken)
 
 add-i : tie.Need-add-i Inv-loop μ-loop
@@ -83,8 +73,7 @@ add-i c =
     let i = study-indexed (s .pre .0) in
     let t = g .before .before .loop-test .taken in
     let few = listed-few (i .indexes) (2 * s .args .a) in
-    let there = positive-there (i .formula) (s .args .a) (s .args .k) _ (s .pre .1 .2 (i .formula) (i .indexes))
-    (n .count-with .ensures (i .formula) (i .indexes)) in
+    let there = positive-there (i .formula) (s .args .a) (s .args .p) (s .pre .1 .2 (i .formula) (i .indexes)) in
     search needs
 
 loop-less : tie.Need-loop-less Inv-loop μ-loop
@@ -99,19 +88,8 @@ loop-again c =
       omega (arith, g .before .before .loop-test .taken),
       g .row-gives .kept .1 .1 .1 .1 .0 ∙ l .loop .inv .1,
       λ φ d. let x = studied-indexes d in let e = n .count-with .ensures φ x in
-          rows-turn φ (s .args .a) (s .args .k) _ e (some-pairs φ (s .args .a) (s .args .k) _ (s .pre .1 .2 φ x) e) _ (l .loop .i)
+          rows-turn φ (s .args .a) (s .args .p .number) _ (s .args .p .row) (s .args .p .column) e (pair-whole φ (s .args .a) (s .args .p) (s .pre .1 .2 φ x) _ e) _ (l .loop .i)
           (l .loop .inv .2 φ d) (g .before .before .loop-test .taken) _ (g .row-gives .ensures φ d) (c .if1 .left),
-    )
-
-rem-row-gives : tie.Need-rem-row-gives Inv-loop μ-loop
-rem-row-gives c =
-    let n = c .before .before .before in
-    let s = n .before .before .before .before .before .before in
-    let i = study-indexed (s .pre .0) in
-    omega (
-      arith,
-      some-pairs (i .formula) (s .args .a) (s .args .k) _ (s .pre .1 .2 (i .formula) (i .indexes))
-          (n .count-with .ensures (i .formula) (i .indexes)),
     )
 
 row-gives-requires-2 : tie.Need-row-gives-requires-2 Inv-loop μ-loop
@@ -124,7 +102,7 @@ row-gives-requires-2 c κs =
       (
         (l .loop .inv .1 ∙ s .pre .1 .0, s .pre .1 .1),
         λ φ h. let e = n .count-with .ensures φ h in let k = s .pre .1 .2 φ h in
-            (positive-there φ (s .args .a) (s .args .k) _ k e, omega (arith, negative-there φ (s .args .a) (s .args .k) _ k e)),
+            (positive-there φ (s .args .a) (s .args .p) k, omega (arith, negative-there φ (s .args .a) (s .args .p) k)),
       ),
     )
 
@@ -139,7 +117,7 @@ returns-2 c =
     let n = l .before in
     let s = n .before .before .before .before .before .before in
     λ φ d. let x = studied-indexes d in let e = n .count-with .ensures φ x in
-    rows-end φ (s .args .a) (s .args .k) _ e (some-pairs φ (s .args .a) (s .args .k) _ (s .pre .1 .2 φ x) e) _ (l .loop .i) (l .loop .inv .2 φ d)
+    rows-end φ (s .args .a) (s .args .p .number) _ (s .args .p .row) (s .args .p .column) e (pair-whole φ (s .args .a) (s .args .p) (s .pre .1 .2 φ x) _ e) _ (l .loop .i) (l .loop .inv .2 φ d)
     (omega (arith, l .loop .inv .0, a .loop-test .left)) _ (g .row-gives2 .ensures φ d)
 
 pub came-before-spec : {M : Type 1} → statement M
@@ -152,7 +130,6 @@ came-before-spec =
     mul-count-with
     add-count-with
     count-with-requires
-    div-last
     loop-holds
     row-gives-requires
     same-length
@@ -160,7 +137,6 @@ came-before-spec =
     add-i
     loop-less
     loop-again
-    rem-row-gives
     row-gives-requires-2
     same-length-2
     returns-2)

@@ -12,7 +12,7 @@ is-clause-requires c κs = file-of (c .before .before .before .before .before .p
 returns : tie.Need-returns
 returns c =
     let s = c .before .before .before .before .before .before .before in
-    λ φ g out. there-first φ (g .well) (s .args .a) (s .args .k) _ out _ (c .before .is-clause .ensures φ (filed-of g)) (c .if1 .taken)
+    λ φ g out. there-first φ (g .well) (s .args .a) (s .args .p .number) _ out _ (c .before .is-clause .ensures φ (filed-of g)) (c .if1 .taken)
 
 came-before-requires : tie.Need-came-before-requires
 came-before-requires c κs = search needs
@@ -25,7 +25,7 @@ returns-2 c =
     let b = c .before .before in
     let e = b .before .before in
     let s = e .before .before .before .before .before .before .before in
-    λ φ g out. there-later φ (g .well) (s .args .a) (s .args .k) _ out _ (e .before .is-clause .ensures φ (filed-of g)) (e .if1 .left) _
+    λ φ g out. there-later φ (g .well) (s .args .a) (s .args .p .number) _ out _ (e .before .is-clause .ensures φ (filed-of g)) (e .if1 .left) _
     (b .came-before .ensures φ g)
 
 pub is-there-spec : {M : Type 1} → statement M

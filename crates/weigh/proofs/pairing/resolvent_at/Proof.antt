@@ -2,17 +2,31 @@
 -- Assumes nothing.
 use mathlib.Core.Path.{_∙_}
 use Rattle.meaning.proofs.Parts.{good-of}
-use Rattle.weigh.proofs.ResolvFile.{filed-of, file-of, study-ranks, positive-ordered, negative-ordered}
+use Rattle.index.proofs.ReadLaws.{studied-indexes}
+use Rattle.weigh.proofs.ResolvFile.{filed-of, file-of, study-ranks, side-ordered, positive-there, negative-there, positive-is, negative-is}
 use Rattle.weigh.proofs.ResolvResult.{pair-made}
 use borrow.Author.Needs.{needs}
 use Rattle.weigh.proofs.pairing.resolvent_at.Statement.{statement}
 use Rattle.weigh.proofs.pairing.resolvent_at.Tie as tie
 
-positive-at-requires : tie.Need-positive-at-requires
-positive-at-requires c κs = let s = c .before .before .before .before in (file-of (s .pre .0), (s .pre .1 .1, s .pre .1 .2))
+cast-literal : tie.Need-cast-literal
+cast-literal c = search needs
 
-negative-at-requires : tie.Need-negative-at-requires
-negative-at-requires c κs = let s = c .before .before .before .before .before in (file-of (s .pre .0), (s .pre .1 .1, s .pre .1 .2))
+mul-literal : tie.Need-mul-literal
+mul-literal c = search needs
+
+clause-with-requires : tie.Need-clause-with-requires
+clause-with-requires c κs =
+    let s = c .before .before .before .before in
+    (file-of (s .pre .0), λ φ h. positive-there φ (s .args .a) (s .args .p) (s .pre .1 .2 φ h))
+
+add-clause-with : tie.Need-add-clause-with
+add-clause-with c = search needs
+
+clause-with-requires-2 : tie.Need-clause-with-requires-2
+clause-with-requires-2 c κs =
+    let s = c .before .before .before .before .before in
+    (file-of (s .pre .0), λ φ h. negative-there φ (s .args .a) (s .args .p) (s .pre .1 .2 φ h))
 
 resolve-pair-requires : tie.Need-resolve-pair-requires
 resolve-pair-requires c κs =
@@ -22,8 +36,8 @@ resolve-pair-requires c κs =
     let f = filed-of (g .studied) in (
       (s .pre .1 .0, s .pre .1 .1, study-ranks g),
       (
-        positive-ordered f (s .args .a) (s .args .k) _ (n .before .positive-at .ensures (g .formula) f),
-        negative-ordered f (s .args .a) (s .args .k) _ (n .negative-at .ensures (g .formula) f),
+        rw (n .before .clause-with .ensures (g .formula) f) (side-ordered f _ (s .args .p .row)),
+        rw (n .clause-with2 .ensures (g .formula) f) (side-ordered f _ (s .args .p .column)),
       ),
     )
 
@@ -36,12 +50,22 @@ returns c =
     let n = r .before .before in
     let s = n .before .before .before .before .before .before in (
       r .resolve-pair .ensures .0,
-      λ φ g. let f = filed-of g in r .resolve-pair .ensures .1 (φ .prefix) (good-of φ (g .well)) (g .ranked)
-          ∙ pair-made φ (g .well) (s .args .a) (s .args .k) (s .pre .1 .2 φ (f .indexes)) _ _ (n .before .positive-at .ensures φ f)
-          (n .negative-at .ensures φ f),
+      λ φ g. let f = filed-of g in let k = s .pre .1 .2 φ (studied-indexes g) in
+          r .resolve-pair .ensures .1 (φ .prefix) (good-of φ (g .well)) (g .ranked)
+          ∙ pair-made φ (g .well) (s .args .a) (s .args .p .number) (k .there) _ _
+          (n .before .clause-with .ensures φ f ∙ positive-is φ (s .args .a) (s .args .p) k)
+          (n .clause-with2 .ensures φ f ∙ negative-is φ (s .args .a) (s .args .p) k),
     )
 
 pub resolvent-at-spec : {M : Type 1} → statement M
 resolvent-at-spec =
     tie.close
-    (tie.spec positive-at-requires negative-at-requires resolve-pair-requires same-length returns)
+    (tie.spec
+    cast-literal
+    mul-literal
+    clause-with-requires
+    add-clause-with
+    clause-with-requires-2
+    resolve-pair-requires
+    same-length
+    returns)
