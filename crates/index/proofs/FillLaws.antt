@@ -1,4 +1,4 @@
--- The clauses put one after the other: where that starts, how it goes on, and that it ends with the index.
+-- The clauses put one after the other: where that starts, how it goes on, and that it ends with the lists.
 -- Assumes nothing.
 use Prim.Native.Nat.{ℕ, zero, suc, _+_, _-_, _≤_, _<_}
 use mathlib.Core.Path.{_≡_, refl, sym, ap, _∙_, subst}
@@ -13,7 +13,8 @@ use Rattle.meaning.specs.WellFormed.{ascends, wellFormed, literals}
 use Rattle.table.specs.Table.{allLiterals, pad, Holds}
 use Rattle.table.specs.Ranks.{small}
 use Rattle.table.specs.declared.Counts.{Counts}
-use Rattle.index.specs.Index.{clausesFrom, clausesWith, listsBelow, listStart, listEnd, placed, indexOf}
+use Rattle.index.specs.Index.{clausesFrom, clausesWith, listsBelow, listStart, listEnd, placed, listsOf, signsAt, indexOf}
+use Rattle.index.specs.Signs.{signed}
 use Rattle.index.specs.Build.{lower, startsIn, withNumber, HeldWell, Filled, Listable, Turn, Turned}
 use Rattle.meaning.proofs.Basics.{and-l, and-r, and-i}
 use Rattle.meaning.proofs.Lists.{all-append}
@@ -24,7 +25,7 @@ use Rattle.table.proofs.LoopLaws.{all-getD}
 use Rattle.table.proofs.PadLaws.{length-all}
 use Rattle.table.proofs.StayLaws.{small-at}
 use Rattle.index.proofs.CountLaws.{lower-lists, lists-within}
-use Rattle.index.proofs.PlaceLaws.{places-length, places-same}
+use Rattle.index.proofs.PlaceLaws.{places-length, places-same, place-at}
 use Rattle.index.proofs.ReadLaws.{rise-all, small-all, lists-next, lists-more}
 use Rattle.index.proofs.PartlyLaws.{partly, partly-start, partly-end, partly-within, partly-more, partly-other, partly-free}
 use Rattle.index.proofs.PutLaws.{put-fits, put-number}
@@ -74,15 +75,15 @@ module _ (cs : List (List ℕ)) (index : List ℕ) (f : Filled cs (clausesWith c
       ∙ ap (λ (r : List ℕ). r ++ drop (listStart cs 2048) (f .numbers)) (front 2048 (omega arith))
       ∙ ap (λ (r : List ℕ). listsBelow cs 2048 ++ r) (f .zeros)
 
-  index-is : index ≡ indexOf cs
-  unfolding indexOf listEnd
+  index-is : index ≡ listsOf cs
+  unfolding listsOf listEnd
   index-is =
       f .table
       ∙ ap (λ (r : List ℕ). placed (λ l. listStart cs l + length (clausesWith cs l)) r) numbers-are
       ∙ ap (λ (r : List ℕ). r ++ pad 9213 (listsBelow cs 2048))
       (places-same (λ l. listStart cs l + length (clausesWith cs l)) (listEnd cs) 2048 (λ l h. sym (lists-next cs l)))
 
-pub fill-end : (cs : List (List ℕ)) (index : List ℕ) (i : ℕ) → Filled cs (clausesWith (take i cs)) index → length cs ≤ i → index ≡ indexOf cs
+pub fill-end : (cs : List (List ℕ)) (index : List ℕ) (i : ℕ) → Filled cs (clausesWith (take i cs)) index → length cs ≤ i → index ≡ listsOf cs
 fill-end cs index i f h = index-is cs index (subst (λ (ds : List (List ℕ)). Filled cs (clausesWith ds) index) (take-all i cs h) f)
 
 -- The loop over the literals of clause i ---------------------------------------------------------------------------
@@ -146,8 +147,18 @@ module _ {φ : Formula} {t : List ℕ} {c : Counts} (h : Holds φ t c) (w : well
   build-turn index clause i more e f = record { listable = listable h w; there = omega (arith, count-clauses h); same = e; filled = f }
 
   pub build-end : (index : List ℕ) (i : ℕ) → c .clauses ≤ i
-      → Filled (φ .clauses) (clausesWith (take i (φ .clauses))) index → index ≡ indexOf (φ .clauses)
+      → Filled (φ .clauses) (clausesWith (take i (φ .clauses))) index → index ≡ listsOf (φ .clauses)
   build-end index i done f = fill-end (φ .clauses) index i f (omega (arith, count-clauses h))
 
 pub turned : {cs : List (List ℕ)} {index clause : List ℕ} {i : ℕ} → Turn cs index clause i → Turned index clause i
 turned {cs} {index} {clause} {i} t = record { clauses = cs; turn = t }
+
+-- The signatures ---------------------------------------------------------------------------------------------------
+-- they begin where the place of the last literal says that its list ends
+pub signs-start : (cs : List (List ℕ)) (index : List ℕ) → index ≡ listsOf cs → indexOf cs ≡ signed (2048 + getD index 2047 0 + 0) cs index
+unfolding indexOf signsAt listsOf listEnd
+signs-start cs index is =
+    let e : getD index 2047 0 ≡ listStart cs 2048 =
+    ap (λ (t : List ℕ). getD t 2047 0) is ∙ place-at (listEnd cs) 2048 (pad 9213 (listsBelow cs 2048)) 2047 (omega arith) in
+    ap (λ (n : ℕ). signed n cs (placed (listEnd cs) (pad 9213 (listsBelow cs 2048)))) (omega (arith, e))
+    ∙ ap (λ (t : List ℕ). signed (2048 + getD index 2047 0 + 0) cs t) (sym is)

@@ -1,6 +1,8 @@
 pub mod ClauseLaws
 pub mod CountLaws
 pub mod PlaceLaws
+pub mod BitLaws
+pub mod SignLaws
 pub mod ReadLaws
 pub mod StartLaws
 pub mod PutLaws

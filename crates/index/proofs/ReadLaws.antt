@@ -1,11 +1,12 @@
--- What is read in the index of a formula: where the list of a literal begins and ends, and that it is the clauses with the literal.
+-- What is read in the index of a formula: where the list of a literal begins and ends, that it is the clauses with the literal, and the
+-- signatures of the clauses.
 -- Assumes nothing.
 use Prim.Native.Nat.{ℕ, zero, suc, _+_, _-_, _≤_, _<_}
 use mathlib.Core.Path.{_≡_, refl, sym, ap, _∙_}
 use mathlib.Core.Bool.{true, false}
 use mathlib.Core.List.{List, [], _∷_, _++_, map}
-use lib.ListN.{length, getD, take, drop, replicate, length-append, length-drop}
-use lib.Seq.{take-append-le, take-add, take-all, drop-at}
+use lib.ListN.{length, getD, take, drop, replicate, length-append, length-take, length-drop}
+use lib.Seq.{take-append-le, take-add, take-all, drop-at, getD-take, getD-drop}
 use lib.Dec.{leb}
 use native.Mathlib.Omega.{arith}
 use native.Mathlib.Nat.{add-zero, add-suc}
@@ -16,7 +17,8 @@ use Rattle.meaning.specs.WellFormed.{ascends, bound, tidyClause, wellFormed, li
 use Rattle.table.specs.Table.{pad}
 use Rattle.table.specs.Ranks.{small}
 use Rattle.table.specs.declared.Counts.{Counts}
-use Rattle.index.specs.Index.{clausesFrom, clausesWith, listsBelow, listStart, listEnd, indexOf, Indexes, Indexed}
+use Rattle.index.specs.Index.{clausesFrom, clausesWith, listsBelow, listStart, listEnd, placed, listsOf, signsAt, indexOf, Indexes, Indexed}
+use Rattle.index.specs.Signs.{Signs}
 use Rattle.index.specs.Study.{Studied, Study}
 use Rattle.meaning.proofs.Basics.{false-of, and-l, and-r}
 use Rattle.meaning.proofs.Lists.{all-le, all-has}
@@ -26,6 +28,7 @@ use Rattle.table.proofs.PadLaws.{length-pad, pad-drop-le}
 use Rattle.table.proofs.StayLaws.{small-below}
 use Rattle.index.proofs.CountLaws.{lists-within}
 use Rattle.index.proofs.PlaceLaws.{places-length, place-at, places-behind}
+use Rattle.index.proofs.SignLaws.{signed-length, signed-below, signed-part, signed-at}
 
 -- The clauses of a well formed formula --------------------------------------------------------------------------
 pub rise-all : (φ : Formula) → wellFormed φ ≡ true → allOf ascends (φ .clauses) ≡ true
@@ -110,11 +113,17 @@ module _ {φ : Formula} {index : List ℕ} (h : Indexes φ index) where
   lists-room : (l : ℕ) → listStart (φ .clauses) l ≤ 8191
   lists-room l = omega (arith, lists-within (φ .clauses) (rise-all φ (h .well)) l, room-of φ (h .fitting) .literals)
 
+  -- what stands before the signatures is read in the lists
+  before-signs : (k : ℕ) → k < 2048 + listStart (φ .clauses) 2048 → getD index k 0 ≡ getD (listsOf (φ .clauses)) k 0
+  unfolding indexOf signsAt
+  before-signs k l = ap (λ (t : List ℕ). getD t k 0) (h .places) ∙ signed-below (2048 + listStart (φ .clauses) 2048) (φ .clauses) (listsOf (φ .clauses)) k l
+
   pub index-length : length index ≡ 11261
-  unfolding indexOf
+  unfolding indexOf listsOf
   index-length =
       let cs = φ .clauses in
       ap length (h .places)
+      ∙ signed-length (signsAt cs) cs (placed (listEnd cs) (pad 9213 (listsBelow cs 2048)))
       ∙ length-append (map (listEnd cs) (upFrom 0 2048)) (pad 9213 (listsBelow cs 2048))
       ∙ omega (arith, places-length (listEnd cs) 2048, length-pad 9213 (listsBelow cs 2048) (omega (arith, lists-room 2048)))
 
@@ -124,12 +133,12 @@ module _ {φ : Formula} {index : List ℕ} (h : Indexes φ index) where
   start-first l e = rw e
 
   pub start-later : (l : ℕ) → (l ≡ 0 → ⊥) → l ≤ 2048 → 2048 + getD index (l - 1) 0 ≡ 2048 + listStart (φ .clauses) l
-  unfolding indexOf listEnd
+  unfolding listsOf listEnd
   start-later l z k =
       let cs = φ .clauses in
       let e : suc (l - 1) ≡ l = omega arith in
       ap (λ (n : ℕ). 2048 + n)
-      (ap (λ (t : List ℕ). getD t (l - 1) 0) (h .places)
+      (before-signs (l - 1) (omega arith)
       ∙ place-at (listEnd cs) 2048 (pad 9213 (listsBelow cs 2048)) (l - 1) (omega arith)
       ∙ ap (listStart cs) e)
 
@@ -143,13 +152,33 @@ module _ {φ : Formula} {index : List ℕ} (h : Indexes φ index) where
     list-there = (omega (arith, next), omega (arith, index-length, lists-room (l + 1)), index-length)
 
     pub list-is : take (e - s) (drop s index) ≡ clausesWith (φ .clauses) l
-    unfolding indexOf
+    unfolding indexOf listsOf signsAt
     list-is =
         let cs = φ .clauses in
         let n : e - s ≡ length (clausesWith cs l) = omega (arith, next) in
         rw (n, p, h .places)
-        (ap (take (length (clausesWith cs l))) (places-behind (listEnd cs) 2048 (pad 9213 (listsBelow cs 2048)) (listStart cs l))
+        (signed-part (2048 + listStart cs 2048) cs (placed (listEnd cs) (pad 9213 (listsBelow cs 2048))) (2048 + listStart cs l) (length (clausesWith cs l))
+        (omega (arith, lists-le cs l 2048 k, lists-next cs l))
+        ∙ ap (take (length (clausesWith cs l))) (places-behind (listEnd cs) 2048 (pad 9213 (listsBelow cs 2048)) (listStart cs l))
         ∙ list-padded cs l 2048 k 9213)
+
+  -- what signatures reads: s is where the last list ends
+  module _ (s : ℕ) (p : s ≡ 2048 + listStart (φ .clauses) 2048) where
+    pub signs-there : (s ≤ length index) × (length index ≡ 11261)
+    signs-there = (omega (arith, index-length, lists-room 2048), index-length)
+
+    pub signs-are : Signs (φ .clauses) (take (length index - s) (drop s index))
+    unfolding indexOf signsAt
+    signs-are =
+        record {
+          each = λ i k l.
+              let cs = φ .clauses in
+              let m : i < length index - s = omega (arith, length-take (length index - s) (drop s index)) in
+              getD-take (length index - s) (drop s index) i 0 m
+              ∙ getD-drop s index i 0
+              ∙ rw (p, h .places) (signed-at (2048 + listStart cs 2048) cs (listsOf cs) i k
+              (omega (arith, ap length (h .places), signed-length (2048 + listStart cs 2048) cs (listsOf cs))));
+        }
 
   pub list-none : (l : ℕ) → 2047 < l → [] ≡ clausesWith (φ .clauses) l
   unfolding clausesWith

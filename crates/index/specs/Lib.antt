@@ -1,3 +1,4 @@
+pub mod Signs
 pub mod Index
 pub mod Study
 pub mod Build

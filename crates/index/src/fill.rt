@@ -1,4 +1,4 @@
-// The numbers of the clauses, put clause by clause at the ends of the lists of their literals.
+// The numbers of the clauses, put clause by clause at the ends of the lists of their literals; then the signatures.
 ghost use mathlib.Core.Path.{_≡_};
 ghost use Prim.Native.Nat.{ℕ, _+_, _<_};
 ghost use mathlib.Core.Bool.{true};
@@ -7,9 +7,10 @@ ghost use lib.ListN.{length, getD, take};
 ghost use Rattle.meaning.specs.Formula.{Formula};
 ghost use Rattle.meaning.specs.WellFormed.{wellFormed};
 ghost use Rattle.table.specs.Table.{Holds};
-ghost use Rattle.index.specs.Index.{clausesWith, indexOf};
+ghost use Rattle.index.specs.Index.{clausesWith, listsOf, indexOf};
 ghost use Rattle.index.specs.Build.{withNumber, HeldWell, Filled, Turn, Turned};
 use crate::lists::NUMBERS_AT;
+use crate::signs::put_signatures;
 use crate::starts::list_starts;
 use table::Counts;
 use table::clause_at;
@@ -38,11 +39,11 @@ fn put_clause(index: &mut [u16], clause: &[u16], number: u16)
     }
 }
 
-// Writes the index of a formula into the idle table, whatever that holds.
-pub fn build_index(t: &[u16], c: Counts, index: &mut [u16])
+// The lists of all literals, whatever the table held.
+fn put_lists(t: &[u16], c: Counts, index: &mut [u16])
     requires { ⌜ HeldWell (now t) c ⌝ }
     requires { ⌜ length (now index) ≡ 11261 ⌝ }
-    ensures { λ _. ⌜ ((φ : Formula) → Holds φ (now (t .entry)) c → wellFormed φ ≡ true → now (index .exit) ≡ indexOf (φ .clauses)) ⌝ }
+    ensures { λ _. ⌜ ((φ : Formula) → Holds φ (now (t .entry)) c → wellFormed φ ≡ true → now (index .exit) ≡ listsOf (φ .clauses)) ⌝ }
 {
     let start = Counts::LITERALS_AT;
     let end = Counts::LITERALS_AT + c.literals;
@@ -52,4 +53,14 @@ pub fn build_index(t: &[u16], c: Counts, index: &mut [u16])
         put_clause(index, clause_at(t, c, i), i as u16);
         i += 1;
     }
+}
+
+// Writes the index of a formula into the idle table, whatever that holds.
+pub fn build_index(t: &[u16], c: Counts, index: &mut [u16])
+    requires { ⌜ HeldWell (now t) c ⌝ }
+    requires { ⌜ length (now index) ≡ 11261 ⌝ }
+    ensures { λ _. ⌜ ((φ : Formula) → Holds φ (now (t .entry)) c → wellFormed φ ≡ true → now (index .exit) ≡ indexOf (φ .clauses)) ⌝ }
+{
+    put_lists(t, c, index);
+    put_signatures(t, c, index);
 }

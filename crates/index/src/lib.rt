@@ -1,7 +1,11 @@
-// The occurrence index of a formula: for each literal the clauses that have it, in the idle table.
+// The occurrence index of a formula: for each literal the clauses that have it, and then the signatures of the clauses, in the idle table.
 mod fill;
 mod lists;
+mod signs;
 mod starts;
 
 pub use fill::build_index;
 pub use lists::clauses_with;
+pub use signs::may_be_part;
+pub use signs::signature;
+pub use signs::signatures;

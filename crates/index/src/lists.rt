@@ -8,7 +8,7 @@ ghost use Rattle.index.specs.Index.{clausesWith, listStart, Indexes, Ind
 pub const NUMBERS_AT: usize = 2048;
 
 // Where the list of a literal begins; for 2,048, where the last one ends.
-fn list_start(index: &[u16], literal: usize) -> usize
+pub fn list_start(index: &[u16], literal: usize) -> usize
     requires { ⌜ Indexed (now index) ⌝ }
     requires { ⌜ literal ≤ 2048 ⌝ }
     ensures { λ r. ⌜ ((φ : Formula) → Indexes φ (now (index .entry)) → r ≡ 2048 + listStart (φ .clauses) literal) ⌝ }

@@ -7,4 +7,5 @@ pub mod AmongLaws
 pub mod MergeLaws
 pub mod WalkLaws
 pub mod LowestLaws
+pub mod SignedLaws
 pub mod StrengthenLaws

@@ -3,15 +3,17 @@
 use Prim.Native.Nat.{ℕ, _≤_, _<_}
 use mathlib.Core.Path.{_≡_}
 use mathlib.Core.Bool.{Bool, true, false, _&&_, cond}
-use mathlib.Core.List.{List, foldl}
+use mathlib.Core.List.{List, [], foldl}
 use lib.Dec.{ltb}
+use lib.ListN.{getD}
 use Rattle.meaning.specs.Lists.{anyOf}
 use Rattle.meaning.specs.Formula.{Formula}
 use Rattle.rules.specs.Entry.{Kind}
-use Rattle.rules.specs.Simplify.{clauseAt, isClause, strengthens}
+use Rattle.rules.specs.Simplify.{strengthens}
 use Rattle.rules.specs.Step.{permitted}
 use Rattle.rules.specs.Choice as rules
 use Rattle.rules.specs.Choice.{none, found, firstB, seconds}
+use Rattle.index.specs.Signs.{signatureOf, Signs}
 use Rattle.search.specs.declared.Found.{Found}
 use Rattle.search.specs.declared.Found.the-variants.{Nothing, Pair}
 
@@ -23,14 +25,17 @@ foundAs (found a b) = Pair a b
 unfoldable pub firstFor : Formula → Kind → ℕ → rules.Found
 firstFor φ k a = firstB (permitted φ k a) a (seconds φ k)
 
+-- Kinds 3 and 4, by signatures ----------------------------------------------------------------------------------
+-- x is clause a and has the signature sign, and signs has the signatures of the clauses
+pub record Signed (φ : Formula) (signs : List ℕ) (sign : ℕ) (x : List ℕ) (a : ℕ) : Type 0 where
+  pub is : x ≡ getD (φ .clauses) a []
+  pub own : sign ≡ signatureOf x
+  pub all : Signs (φ .clauses) signs
+
 -- Kind 4, by the lowest b ---------------------------------------------------------------------------------------
 -- some literal of the clause x strengthens the clause y
 unfoldable pub someStrengthens : List ℕ → List ℕ → List ℕ → Bool
 someStrengthens p x y = anyOf (strengthens p x y) x
-
--- there is a clause b, and some literal of the clause x strengthens it
-unfoldable pub strengthened : Formula → List ℕ → ℕ → Bool
-strengthened φ x b = isClause (φ .clauses) b && someStrengthens (φ .prefix) x (clauseAt (φ .clauses) b)
 
 -- the lower of the best so far and of b, where b passes the test
 unfoldable pub lowerIf : (ℕ → Bool) → ℕ → ℕ → ℕ

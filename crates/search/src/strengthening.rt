@@ -4,63 +4,104 @@ ghost use Prim.Native.Nat.{ℕ, _<_};
 ghost use mathlib.Core.Bool.{true};
 ghost use lib.ListN.{length};
 ghost use Rattle.meaning.specs.Formula.{Formula};
-ghost use Rattle.meaning.specs.WellFormed.{wellFormed, ascends};
+ghost use Rattle.meaning.specs.WellFormed.{wellFormed};
 ghost use Rattle.rules.specs.Entry as rules;
 ghost use Rattle.rules.specs.Choice.{candidate};
 ghost use Rattle.rules.specs.Simplify.{strengthenPermitted};
 ghost use Rattle.table.specs.Table.{Holds, Held};
 ghost use Rattle.table.specs.Ranks.{ranksOf};
 ghost use Rattle.index.specs.Study.{Studied, Study};
-ghost use Rattle.search.specs.Candidates.{foundAs, strengthened, lowerIf, lowest, Lowest};
+ghost use Rattle.search.specs.Candidates.{foundAs, Signed, lowerIf, lowest, Lowest};
 use crate::Found;
 use crate::merges::strengthens_part;
 use crate::rarity::rarest_of_both;
 use index::clauses_with;
+use index::may_be_part;
+use index::signature;
+use index::signatures;
 use table::Counts;
 use table::clause_at;
 use table::flip;
 
-// Whether there is a clause b, and some literal of x strengthens it.
-fn is_strengthened(t: &[u16], c: Counts, ranks: &[u16], x: &[u16], b: usize) -> bool
+// Whether there is a clause b, and some literal of x, which is clause a, strengthens it.
+fn is_strengthened(
+    t: &[u16],
+    c: Counts,
+    ranks: &[u16],
+    signs: &[u16],
+    sign: u16,
+    x: &[u16],
+    a: usize,
+    b: usize,
+) -> bool
     requires { ⌜ Held (now t) c ⌝ }
     requires { ⌜ length (now ranks) ≡ 1024 ⌝ }
-    ensures { λ r. ⌜ ((φ : Formula) → Holds φ (now (t .entry)) c → wellFormed φ ≡ true → now (ranks .entry) ≡ ranksOf (φ .prefix) → ascends (now (x .entry)) ≡ true → r ≡ strengthened φ (now (x .entry)) b) ⌝ }
+    requires { ⌜ a < c .clauses ⌝ }
+    ensures { λ r. ⌜ ((φ : Formula) → Holds φ (now (t .entry)) c → wellFormed φ ≡ true → now (ranks .entry) ≡ ranksOf (φ .prefix) → Signed φ (now (signs .entry)) sign (now (x .entry)) a → r ≡ strengthenPermitted φ a b) ⌝ }
 {
     if c.clauses <= b {
         return false;
     }
-    let y = clause_at(t, c, b);
-    if y.len() < x.len() {
+    if a == b {
         return false;
     }
-    strengthens_part(ranks, x, y)
+    if may_be_part(signs, sign, b) {
+        let y = clause_at(t, c, b);
+        if y.len() < x.len() {
+            return false;
+        }
+        return strengthens_part(ranks, x, y);
+    }
+    false
 }
 
-// The lower of the best so far and of b, where b is strengthened.
-fn lower_of(t: &[u16], c: Counts, ranks: &[u16], x: &[u16], best: usize, b: usize) -> usize
+// The lower of the best so far and of b, where clause a strengthens clause b.
+fn lower_of(
+    t: &[u16],
+    c: Counts,
+    ranks: &[u16],
+    signs: &[u16],
+    sign: u16,
+    x: &[u16],
+    a: usize,
+    best: usize,
+    b: usize,
+) -> usize
     requires { ⌜ Held (now t) c ⌝ }
     requires { ⌜ length (now ranks) ≡ 1024 ⌝ }
-    ensures { λ r. ⌜ ((φ : Formula) → Holds φ (now (t .entry)) c → wellFormed φ ≡ true → now (ranks .entry) ≡ ranksOf (φ .prefix) → ascends (now (x .entry)) ≡ true → r ≡ lowerIf (strengthened φ (now (x .entry))) best b) ⌝ }
+    requires { ⌜ a < c .clauses ⌝ }
+    ensures { λ r. ⌜ ((φ : Formula) → Holds φ (now (t .entry)) c → wellFormed φ ≡ true → now (ranks .entry) ≡ ranksOf (φ .prefix) → Signed φ (now (signs .entry)) sign (now (x .entry)) a → r ≡ lowerIf (strengthenPermitted φ a) best b) ⌝ }
 {
     if best <= b {
         return best;
     }
-    if is_strengthened(t, c, ranks, x, b) {
+    if is_strengthened(t, c, ranks, signs, sign, x, a, b) {
         return b;
     }
     best
 }
 
-// The lowest of the best so far and of those of these clauses that are strengthened.
-fn lowest_among(t: &[u16], c: Counts, ranks: &[u16], x: &[u16], among: &[u16], best: usize) -> usize
+// The lowest of the best so far and of those of these clauses that clause a strengthens.
+fn lowest_among(
+    t: &[u16],
+    c: Counts,
+    ranks: &[u16],
+    signs: &[u16],
+    sign: u16,
+    x: &[u16],
+    a: usize,
+    among: &[u16],
+    best: usize,
+) -> usize
     requires { ⌜ Held (now t) c ⌝ }
     requires { ⌜ length (now ranks) ≡ 1024 ⌝ }
-    ensures { λ r. ⌜ ((φ : Formula) → Holds φ (now (t .entry)) c → wellFormed φ ≡ true → now (ranks .entry) ≡ ranksOf (φ .prefix) → ascends (now (x .entry)) ≡ true → r ≡ lowest (strengthened φ (now (x .entry))) best (now (among .entry))) ⌝ }
+    requires { ⌜ a < c .clauses ⌝ }
+    ensures { λ r. ⌜ ((φ : Formula) → Holds φ (now (t .entry)) c → wellFormed φ ≡ true → now (ranks .entry) ≡ ranksOf (φ .prefix) → Signed φ (now (signs .entry)) sign (now (x .entry)) a → r ≡ lowest (strengthenPermitted φ a) best (now (among .entry))) ⌝ }
 {
     let mut low = best;
     let mut k = 0;
     while k < among.len() {
-        low = lower_of(t, c, ranks, x, low, among[k] as usize);
+        low = lower_of(t, c, ranks, signs, sign, x, a, low, among[k] as usize);
         k += 1;
     }
     low
@@ -77,10 +118,22 @@ fn strengthened_by(t: &[u16], c: Counts, ranks: &[u16], index: &[u16], a: usize)
     if x.len() == 0 {
         return c.clauses;
     }
+    let signs = signatures(index);
+    let sign = signature(x);
     let l = rarest_of_both(index, x);
-    let best = lowest_among(t, c, ranks, x, clauses_with(index, l), c.clauses);
+    let best = lowest_among(
+        t,
+        c,
+        ranks,
+        signs,
+        sign,
+        x,
+        a,
+        clauses_with(index, l),
+        c.clauses,
+    );
     let k = flip(l);
-    lowest_among(t, c, ranks, x, clauses_with(index, k), best)
+    lowest_among(t, c, ranks, signs, sign, x, a, clauses_with(index, k), best)
 }
 
 pub fn find_strengthen(t: &[u16], c: Counts, ranks: &[u16], index: &[u16]) -> Found

@@ -2,8 +2,6 @@
 ghost use mathlib.Core.Path.{_≡_};
 ghost use Prim.Native.Nat.{ℕ, _<_};
 ghost use mathlib.Core.Bool.{true, false};
-ghost use mathlib.Core.List.{[]};
-ghost use lib.ListN.{getD};
 ghost use Rattle.meaning.specs.Formula.{Formula};
 ghost use Rattle.meaning.specs.Game.{emptyClause};
 ghost use Rattle.meaning.specs.WellFormed.{wellFormed};
@@ -12,19 +10,30 @@ ghost use Rattle.rules.specs.Simplify.{subsumePermitted};
 ghost use Rattle.rules.specs.Choice.{firstB, candidate};
 ghost use Rattle.table.specs.Table.{Holds, Held};
 ghost use Rattle.index.specs.Index.{Indexes, Indexed};
-ghost use Rattle.search.specs.Candidates.{foundAs, firstFor};
+ghost use Rattle.search.specs.Candidates.{foundAs, firstFor, Signed};
 use crate::Found;
 use crate::merges::is_part;
 use crate::rarity::rarest;
 use index::clauses_with;
+use index::may_be_part;
+use index::signature;
+use index::signatures;
 use table::Counts;
 use table::clause_at;
 
 // Whether clause b is another one than a, and has all literals of x, which is clause a.
-fn is_subsumed(t: &[u16], c: Counts, x: &[u16], a: usize, b: usize) -> bool
+fn is_subsumed(
+    t: &[u16],
+    c: Counts,
+    signs: &[u16],
+    sign: u16,
+    x: &[u16],
+    a: usize,
+    b: usize,
+) -> bool
     requires { ⌜ Held (now t) c ⌝ }
     requires { ⌜ a < c .clauses ⌝ }
-    ensures { λ r. ⌜ ((φ : Formula) → Holds φ (now (t .entry)) c → wellFormed φ ≡ true → now (x .entry) ≡ getD (φ .clauses) a [] → r ≡ subsumePermitted φ a b) ⌝ }
+    ensures { λ r. ⌜ ((φ : Formula) → Holds φ (now (t .entry)) c → wellFormed φ ≡ true → Signed φ (now (signs .entry)) sign (now (x .entry)) a → r ≡ subsumePermitted φ a b) ⌝ }
 {
     if c.clauses <= b {
         return false;
@@ -32,23 +41,34 @@ fn is_subsumed(t: &[u16], c: Counts, x: &[u16], a: usize, b: usize) -> bool
     if a == b {
         return false;
     }
-    let y = clause_at(t, c, b);
-    if y.len() < x.len() {
-        return false;
+    if may_be_part(signs, sign, b) {
+        let y = clause_at(t, c, b);
+        if y.len() < x.len() {
+            return false;
+        }
+        return is_part(x, y);
     }
-    is_part(x, y)
+    false
 }
 
 // The first of these clauses of which x, which is clause a, is a part.
-fn first_subsumed(t: &[u16], c: Counts, x: &[u16], a: usize, among: &[u16]) -> Found
+fn first_subsumed(
+    t: &[u16],
+    c: Counts,
+    signs: &[u16],
+    sign: u16,
+    x: &[u16],
+    a: usize,
+    among: &[u16],
+) -> Found
     requires { ⌜ Held (now t) c ⌝ }
     requires { ⌜ a < c .clauses ⌝ }
-    ensures { λ r. ⌜ ((φ : Formula) → Holds φ (now (t .entry)) c → wellFormed φ ≡ true → now (x .entry) ≡ getD (φ .clauses) a [] → r ≡ foundAs (firstB (subsumePermitted φ a) a (now (among .entry)))) ⌝ }
+    ensures { λ r. ⌜ ((φ : Formula) → Holds φ (now (t .entry)) c → wellFormed φ ≡ true → Signed φ (now (signs .entry)) sign (now (x .entry)) a → r ≡ foundAs (firstB (subsumePermitted φ a) a (now (among .entry)))) ⌝ }
 {
     let mut i = 0;
     while i < among.len() {
         let b = among[i] as usize;
-        if is_subsumed(t, c, x, a, b) {
+        if is_subsumed(t, c, signs, sign, x, a, b) {
             return Found::Pair(a, b);
         }
         i += 1;
@@ -67,8 +87,10 @@ fn subsumed_by(t: &[u16], c: Counts, index: &[u16], a: usize) -> Found
     if x.len() == 0 {
         return Found::Nothing;
     }
+    let signs = signatures(index);
+    let sign = signature(x);
     let l = rarest(index, x);
-    first_subsumed(t, c, x, a, clauses_with(index, l))
+    first_subsumed(t, c, signs, sign, x, a, clauses_with(index, l))
 }
 
 // No clause may be empty: then the formula is false, and no step is looked for.

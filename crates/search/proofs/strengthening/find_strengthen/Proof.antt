@@ -38,7 +38,7 @@ returns c =
     let k = r .before .if1 .taken in
     let l = r .before .before .before in
     λ φ E s. walk-found (by-clause (s .holds) strengthen refl) E (l .loop .a) (l .loop .inv .1 φ E s) k _
-    (strong-found (s .holds) _ k _ (r .strengthened-by .ensures φ s) (c .if2 .taken)) _ _ refl
+    (strong-found (s .holds) _ _ (r .strengthened-by .ensures φ s) (c .if2 .taken)) _ _ refl
 
 add-a : tie.Need-add-a Inv-loop μ-loop
 add-a c = let s = c .before .before .before .before .before .before .before .before .before in let b = bounds (study-held (s .pre)) in omega arith
@@ -54,7 +54,7 @@ loop-again c =
     let l = r .before .before .before in (
       search needs,
       λ φ E s. walk-next (by-clause (s .holds) strengthen refl) E (l .loop .a) (l .loop .inv .1 φ E s) k _
-          (strong-nothing (s .holds) _ k _ (r .strengthened-by .ensures φ s) (c .if2 .left)) refl,
+          (strong-nothing (s .holds) _ _ (r .strengthened-by .ensures φ s) (c .if2 .left)) refl,
     )
 
 returns-2 : tie.Need-returns-2 Inv-loop μ-loop

@@ -3,14 +3,14 @@
 use Prim.Native.Nat.{_≤_, _-_}
 use mathlib.Core.Path.{_≡_, refl}
 use mathlib.Core.Bool.{true}
-use mathlib.Core.List.{foldl}
 use native.Mathlib.Omega.{arith}
 use lib.ListN.{length, drop}
 use Rattle.meaning.specs.Formula.{Formula}
-use Rattle.meaning.specs.WellFormed.{wellFormed, ascends}
+use Rattle.meaning.specs.WellFormed.{wellFormed}
+use Rattle.rules.specs.Simplify.{strengthenPermitted}
 use Rattle.table.specs.Table.{Holds}
 use Rattle.table.specs.Ranks.{ranksOf}
-use Rattle.search.specs.Candidates.{strengthened, lowerIf, lowest}
+use Rattle.search.specs.Candidates.{Signed, lowest}
 use Rattle.search.proofs.LowestLaws.{lowest-turn, lowest-end}
 use borrow.Author.Needs.{needs}
 use Rattle.search.proofs.strengthening.lowest_among.Statement.{statement}
@@ -18,16 +18,16 @@ use Rattle.search.proofs.strengthening.lowest_among.Tie as tie
 use Rattle.search.proofs.strengthening.lower_of.Reads as lower-of-reads
 
 abbrev Inv-loop : tie.InvT-loop
-Inv-loop t c ranks x among best low₀ k₀ low k =
+Inv-loop t c ranks signs sign x a among best low₀ k₀ low k =
     (k ≤ length among)
-    × ((φ : Formula) → Holds φ t c → wellFormed φ ≡ true → ranks ≡ ranksOf (φ .prefix) → ascends x ≡ true
-    → lowest (strengthened φ x) best among ≡ lowest (strengthened φ x) low (drop k among))
+    × ((φ : Formula) → Holds φ t c → wellFormed φ ≡ true → ranks ≡ ranksOf (φ .prefix) → Signed φ signs sign x a
+    → lowest (strengthenPermitted φ a) best among ≡ lowest (strengthenPermitted φ a) low (drop k among))
 
 abbrev μ-loop : tie.MeasureT-loop
-μ-loop t c ranks x among best low₀ k₀ low k = length among - k
+μ-loop t c ranks signs sign x a among best low₀ k₀ low k = length among - k
 
 loop-holds : tie.Need-loop-holds Inv-loop μ-loop
-loop-holds c = (search needs, λ φ h w q up. refl)
+loop-holds c = (search needs, λ φ h w q g. refl)
 
 mul-lower-of : tie.Need-mul-lower-of Inv-loop μ-loop
 mul-lower-of c = search needs
@@ -36,7 +36,7 @@ shared-slice-read-lower-of : tie.Need-shared-slice-read-lower-of Inv-loop μ-loo
 shared-slice-read-lower-of c = search needs
 
 cast-lower-of : tie.Need-cast-lower-of Inv-loop μ-loop
-cast-lower-of c = omega (arith, c .shared-slice-known5 .given (c .before .before .loop .k))
+cast-lower-of c = omega (arith, c .shared-slice-known6 .given (c .before .before .loop .k))
 
 lower-of-requires : tie.Need-lower-of-requires Inv-loop μ-loop
 lower-of-requires c κs = search needs
@@ -52,11 +52,14 @@ loop-again c =
     let n = c .before .before in
     let l = n .before .loop in (
       search needs,
-      λ φ h w q up. lowest-turn (strengthened φ _) _ (l .k) (l .low) (l .inv .1 φ h w q up) (n .loop-test .taken) _ (c .lower-of .ensures φ h w q up),
+      λ φ h w q g. lowest-turn (strengthenPermitted φ _) _ (l .k) (l .low) (l .inv .1 φ h w q g) (n .loop-test .taken) _
+          (c .lower-of .ensures φ h w q g),
     )
 
 returns : tie.Need-returns Inv-loop μ-loop
-returns c = let l = c .before .loop in λ φ h w q up. lowest-end (strengthened φ _) _ (l .k) (l .low) (l .inv .1 φ h w q up) (c .loop-test .left)
+returns c =
+    let l = c .before .loop in
+    λ φ h w q g. lowest-end (strengthenPermitted φ _) _ (l .k) (l .low) (l .inv .1 φ h w q g) (c .loop-test .left)
 
 pub lowest-among-spec : {M : Type 1} → statement M
 lowest-among-spec =

@@ -2,15 +2,15 @@
 -- Assumes nothing.
 use Prim.Native.Nat.{_≤_, _-_}
 use mathlib.Core.Path.{_≡_, refl}
-use native.Mathlib.Omega.{arith}
 use mathlib.Core.Bool.{true}
-use mathlib.Core.List.{[]}
-use lib.ListN.{length, getD, drop}
+use native.Mathlib.Omega.{arith}
+use lib.ListN.{length, drop}
 use Rattle.meaning.specs.Formula.{Formula}
 use Rattle.meaning.specs.WellFormed.{wellFormed}
 use Rattle.table.specs.Table.{Holds}
 use Rattle.rules.specs.Simplify.{subsumePermitted}
 use Rattle.rules.specs.Choice.{firstB}
+use Rattle.search.specs.Candidates.{Signed}
 use Rattle.search.proofs.FirstLaws.{b-next, b-found, b-end}
 use borrow.Author.Needs.{needs}
 use Rattle.search.proofs.subsumption.first_subsumed.Statement.{statement}
@@ -18,15 +18,16 @@ use Rattle.search.proofs.subsumption.first_subsumed.Tie as tie
 use Rattle.search.proofs.subsumption.is_subsumed.Reads as is-subsumed-reads
 
 abbrev Inv-loop : tie.InvT-loop
-Inv-loop t c x a among i₀ i =
+Inv-loop t c signs sign x a among i₀ i =
     (i ≤ length among)
-    × ((φ : Formula) → Holds φ t c → wellFormed φ ≡ true → x ≡ getD (φ .clauses) a [] → firstB (subsumePermitted φ a) a among ≡ firstB (subsumePermitted φ a) a (drop i among))
+    × ((φ : Formula) → Holds φ t c → wellFormed φ ≡ true → Signed φ signs sign x a
+    → firstB (subsumePermitted φ a) a among ≡ firstB (subsumePermitted φ a) a (drop i among))
 
 abbrev μ-loop : tie.MeasureT-loop
-μ-loop t c x a among i₀ i = length among - i
+μ-loop t c signs sign x a among i₀ i = length among - i
 
 loop-holds : tie.Need-loop-holds Inv-loop μ-loop
-loop-holds c = (search needs, λ φ h w e. refl)
+loop-holds c = (search needs, λ φ h w g. refl)
 
 mul-b : tie.Need-mul-b Inv-loop μ-loop
 mul-b c = search needs
@@ -35,7 +36,7 @@ shared-slice-read-b : tie.Need-shared-slice-read-b Inv-loop μ-loop
 shared-slice-read-b c = search needs
 
 cast-b : tie.Need-cast-b Inv-loop μ-loop
-cast-b c = omega (arith, c .shared-slice-known4 .given (c .before .before .loop .i))
+cast-b c = omega (arith, c .shared-slice-known5 .given (c .before .before .loop .i))
 
 is-subsumed-requires : tie.Need-is-subsumed-requires Inv-loop μ-loop
 is-subsumed-requires c κs = search needs
@@ -43,8 +44,8 @@ is-subsumed-requires c κs = search needs
 returns : tie.Need-returns Inv-loop μ-loop
 returns c =
     let l = c .before .before .before .before in
-    λ φ h w e. b-found (subsumePermitted φ _) _ _ (l .loop .i) (l .loop .inv .1 φ h w e) (omega arith) _
-    (c .before .is-subsumed .ensures φ h w e) (c .if1 .taken)
+    λ φ h w g. b-found (subsumePermitted φ _) _ _ (l .loop .i) (l .loop .inv .1 φ h w g) (omega arith) _
+    (c .before .is-subsumed .ensures φ h w g) (c .if1 .taken)
 
 add-i : tie.Need-add-i Inv-loop μ-loop
 add-i c = search needs
@@ -56,12 +57,12 @@ loop-again : tie.Need-loop-again Inv-loop μ-loop
 loop-again c =
     let l = c .before .before .before .before in (
       search needs,
-      λ φ h w e. b-next (subsumePermitted φ _) _ _ (l .loop .i) (l .loop .inv .1 φ h w e) (omega arith) _
-          (c .before .is-subsumed .ensures φ h w e) (c .if1 .left),
+      λ φ h w g. b-next (subsumePermitted φ _) _ _ (l .loop .i) (l .loop .inv .1 φ h w g) (omega arith) _
+          (c .before .is-subsumed .ensures φ h w g) (c .if1 .left),
     )
 
 returns-2 : tie.Need-returns-2 Inv-loop μ-loop
-returns-2 c = let l = c .before in λ φ h w e. b-end (subsumePermitted φ _) _ _ (l .loop .i) (l .loop .inv .1 φ h w e) (omega arith)
+returns-2 c = let l = c .before in λ φ h w g. b-end (subsumePermitted φ _) _ _ (l .loop .i) (l .loop .inv .1 φ h w g) (omega arith)
 
 pub first-subsumed-spec : {M : Type 1} → statement M
 first-subsumed-spec =
