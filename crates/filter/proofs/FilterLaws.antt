@@ -11,7 +11,7 @@ use Rattle.meaning.specs.Lists.{allOf, anyOf, same}
 use Rattle.meaning.specs.Formula.{Formula}
 use Rattle.meaning.specs.Tidy.{kept, addTidied}
 use Rattle.stamps.specs.Stamp.{withStamp, stamped}
-use Rattle.table.specs.Table.{decode, withNewClause, Holds}
+use Rattle.table.specs.Table.{withNewClause, Holds}
 use Rattle.table.specs.Answer.{Became}
 use Rattle.table.specs.declared.Counts.{Counts}
 use Rattle.table.specs.declared.Pushed.{Pushed}

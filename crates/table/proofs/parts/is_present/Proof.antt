@@ -1,8 +1,6 @@
 -- The first clauses, as many as there are, are all.
 -- Assumes nothing.
-use mathlib.Core.Path.{_≡_, ap, _∙_}
-use mathlib.Core.List.{List}
-use Prim.Native.Nat.{ℕ}
+use mathlib.Core.Path.{ap, _∙_}
 use native.Mathlib.Omega.{arith}
 use lib.Seq.{take-all}
 use borrow.Author.Needs.{needs}
