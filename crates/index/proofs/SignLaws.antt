@@ -14,7 +14,7 @@ use native.Mathlib.Omega.{arith}
 use Rattle.meaning.specs.Lists.{allOf, anyOf, has, partOf}
 use Rattle.meaning.specs.Formula.{var, isVar, mentions}
 use Rattle.index.specs.Signs.{bitOf, signOn, signatureOf, variablesIn, signed, Signs}
-use Rattle.table.proofs.LoopLaws.{fold-turn}
+use Rattle.meaning.proofs.Folds.{fold-turn}
 use Rattle.meaning.proofs.Basics.{and-l, and-r, or-elim, clash, eqb-true, eqb-eq}
 use Rattle.index.proofs.BitLaws.{bit-is, part-own, part-stays, part-both}
 

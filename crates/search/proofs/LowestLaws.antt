@@ -14,7 +14,7 @@ use Rattle.rules.specs.Choice.{none, found, firstB}
 use Rattle.search.specs.Candidates.{foundAs, lowerIf, lowest, Lowest}
 use Rattle.search.specs.declared.Found.{Found}
 use Rattle.search.specs.declared.Found.the-variants.{Nothing, Pair}
-use Rattle.table.proofs.LoopLaws.{fold-turn, fold-end}
+use Rattle.meaning.proofs.Folds.{fold-turn, fold-end}
 use Rattle.meaning.proofs.Basics.{by-cases, false-of, clash, and-r, or-elim, eqb-true, eqb-false}
 
 -- One number -----------------------------------------------------------------------------------------------------

@@ -5,7 +5,7 @@ use mathlib.Core.Path.{_≡_, refl}
 use mathlib.Core.List.{foldl}
 use native.Mathlib.Omega.{arith}
 use lib.ListN.{length, drop}
-use Rattle.table.proofs.LoopLaws.{fold-end}
+use Rattle.meaning.proofs.Folds.{fold-end}
 use Rattle.index.specs.Signs.{signOn, signatureOf}
 use Rattle.index.proofs.SignLaws.{sign-turn}
 use borrow.Author.Needs.{needs}
