@@ -8,6 +8,9 @@ pub mod ResolvPending
 pub mod ResolvFits
 pub mod ResolvRows
 pub mod ResolvFile
+pub mod AnyLaws
+pub mod ListedLaws
+pub mod EarlierLaws
 pub mod ResolvWeigh
 pub mod ResolvStart
 pub mod ExpandLists

@@ -166,6 +166,14 @@ all-at f (c ∷ cs) zero e h = and-l (f c) (allOf f cs) h
 all-at f (c ∷ cs) (suc i) e h = all-at f cs i e (and-r (f c) (allOf f cs) h)
 
 module _ {φ : Formula} {t : List ℕ} {c : Counts} {index : List ℕ} (f : Filed φ t c index) where
+  pub clause-ordered : (i : ℕ) → Ordered (getD (φ .clauses) i [])
+  unfolding allOf ascends
+  clause-ordered i =
+      record {
+        range = all-at (allOf inRange) (φ .clauses) i refl (clauses-range φ (f .indexes .well) (f .holds .fitting));
+        rise = all-at ascends (φ .clauses) i refl (clauses-rise φ (f .indexes .well));
+      }
+
   pub side-ordered : (l i : ℕ) → Ordered (getD (withLit l (φ .clauses)) i [])
   unfolding withLit allOf ascends
   side-ordered l i =

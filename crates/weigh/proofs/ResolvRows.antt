@@ -31,7 +31,7 @@ one-take a x (y ∷ ys) zero = refl
 one-take a x (y ∷ ys) (suc m) = rw (one-take a x ys m)
 
 -- the resolvents of the positive clause i with the first m negative ones
-row-is : (a : ℕ) (xs ys : List (List ℕ)) (i m : ℕ) → i < length xs → m ≤ length ys
+pub row-is : (a : ℕ) (xs ys : List (List ℕ)) (i m : ℕ) → i < length xs → m ≤ length ys
     → take m (drop (i * length ys) (resolvents a xs ys)) ≡ resolventsOf a (getD xs i []) (take m ys)
 unfolding resolvents
 row-is a [] ys i m h l = absurd (not-suc-le-zero h)
@@ -42,7 +42,7 @@ row-is a (x ∷ xs) ys (suc i) m h l =
     rw (e, drop-append-add (resolventsOf a x ys) (resolvents a xs ys) (i * length ys)) (row-is a xs ys i m (le-of-suc-le-suc h) l)
 
 -- what is said of a row's raw clauses and of the negative clauses
-any-row : (f : List ℕ → Bool) (a : ℕ) (x : List ℕ) (ys : List (List ℕ)) → anyOf f (resolventsOf a x ys) ≡ anyOf (λ y. f (resolvent a x y)) ys
+pub any-row : (f : List ℕ → Bool) (a : ℕ) (x : List ℕ) (ys : List (List ℕ)) → anyOf f (resolventsOf a x ys) ≡ anyOf (λ y. f (resolvent a x y)) ys
 unfolding anyOf resolventsOf resolvent
 any-row f a x [] = refl
 any-row f a x (y ∷ ys) = ap (λ (b : Bool). f (resolvent a x y) || b) (any-row f a x ys)
@@ -52,7 +52,7 @@ unfolding anyOf
 none-of f [] h = refl
 none-of f (y ∷ ys) h = rw (h y, none-of f ys h)
 
-all-part : (f : List ℕ → Bool) (from m : ℕ) (l : List (List ℕ)) → allOf f l ≡ true → allOf f (take m (drop from l)) ≡ true
+pub all-part : (f : List ℕ → Bool) (from m : ℕ) (l : List (List ℕ)) → allOf f l ≡ true → allOf f (take m (drop from l)) ≡ true
 all-part f from m l h =
     and-l (allOf f (take m (drop from l))) (allOf f (drop m (drop from l)))
     (sym (all-append f (take m (drop from l)) (drop m (drop from l))) ∙ ap (allOf f) (take-append-drop m (drop from l))

@@ -125,6 +125,10 @@ rarest-of cs l (k ∷ c) = go (ltb (length (withLit k cs)) (length (withLit l cs
         (λ e. or-ir (eqb (rarestOf cs l c) l) (eqb (rarestOf cs l c) k || has (rarestOf cs l c) c)
         (or-ir (eqb (rarestOf cs l c) k) (has (rarestOf cs l c) c) e))
 
+pub rarest-has : (cs : List (List ℕ)) (c : List ℕ) → 0 < length c → (x : ℕ) → x ≡ rarestOf cs (getD c 0 0) (drop 1 c) → has x c ≡ true
+rarest-has cs [] h x e = absurd (omega arith)
+rarest-has cs (l ∷ c) h x e = rw e (rarest-of cs l c)
+
 -- so the clause is among those with it exactly if it is one of all
 pub found-among : (cs : List (List ℕ)) (c : List ℕ) → (length c ≡ 0 → ⊥) → (x : ℕ) → x ≡ rarestOf cs (getD c 0 0) (drop 1 c) → (r : Bool)
     → r ≡ anyOf (same c) (withLit x cs) → r ≡ anyOf (same c) cs

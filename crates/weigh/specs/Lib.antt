@@ -1,4 +1,5 @@
 pub mod Weights
 pub mod Resolving
 pub mod Merging
+pub mod Earlier
 pub mod Expanding

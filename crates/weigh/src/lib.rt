@@ -1,5 +1,6 @@
 // What the results of steps 6 and 7 would weigh, without building them.
 mod counts;
+mod earlier;
 mod expanding;
 mod merging;
 mod pairing;

@@ -11,14 +11,19 @@ ghost use Rattle.index.specs.Index.{Indexes, Indexed};
 ghost use Rattle.index.specs.Study.{Studied, Study};
 ghost use Rattle.weigh.specs.Merging.{Ordered};
 ghost use Rattle.weigh.specs.Resolving.{pairs, Placed, PairOf, resolventAt, resolvedTo, tidiedIn, anyGives, rowGives, cameBefore, Bounded};
+use crate::earlier::is_made_earlier;
 use crate::resolvents::fits_in;
 use crate::resolvents::gives;
 use crate::resolvents::resolve_pair;
 use crate::sides::clause_with;
 use crate::sides::count_with;
 use crate::sides::is_clause;
+use crate::sides::number_with;
 use table::Counts;
 use table::Pending;
+
+// So many positive clauses are tried one by one.
+const FEW: usize = 8;
 
 // A pair by its number, and by the numbers of its clauses among the positive and among the negative ones.
 pub struct Pair {
@@ -177,6 +182,34 @@ fn came_before(
     row_gives(t, c, ranks, index, again, a, last, p.column, clause)
 }
 
+// The same. After many positive clauses the index tells where to look; each is tried only where there are few, or the clause has no literal to
+// look for.
+fn is_earlier(
+    t: &[u16],
+    c: Counts,
+    ranks: &[u16],
+    index: &[u16],
+    again: &mut [u16],
+    a: usize,
+    p: Pair,
+    clause: &[u16],
+) -> bool
+    requires { ⌜ Study (now t) c (now ranks) (now index) ⌝ }
+    requires { ⌜ (length (now again) ≡ 1023) × (a < 1024) × ((φ : Formula) → Indexes φ (now index) → PairOf φ a p) ⌝ }
+    ensures { λ r. ⌜ ((φ : Formula) → Studied φ (now (t .entry)) c (now (ranks .entry)) (now (index .entry)) → r ≡ cameBefore φ a (p .number) (now (clause .entry))) ⌝ }
+{
+    if p.row < FEW {
+        return came_before(t, c, ranks, index, again, a, p, clause);
+    }
+    if clause.len() == 0 {
+        return came_before(t, c, ranks, index, again, a, p, clause);
+    }
+    let literal = 2 * a as u16;
+    let m = number_with(index, literal, p.row);
+    let n = number_with(index, literal + 1, p.column);
+    is_made_earlier(t, c, ranks, index, again, a, m, n, clause)
+}
+
 // Whether the clause, which does not have the variable, is there after the pairs before this one.
 fn is_there(
     t: &[u16],
@@ -195,7 +228,7 @@ fn is_there(
     if is_clause(t, c, index, clause) {
         return true;
     }
-    came_before(t, c, ranks, index, again, a, p, clause)
+    is_earlier(t, c, ranks, index, again, a, p, clause)
 }
 
 // The counts with a clause of so many literals more, whether it fits or not.

@@ -8,7 +8,7 @@ ghost use Rattle.meaning.specs.Formula.{Formula};
 ghost use Rattle.meaning.specs.WellFormed.{literals};
 ghost use Rattle.rules.specs.Eliminate.{withLit};
 ghost use Rattle.permits.specs.Places.{sideWithin};
-ghost use Rattle.index.specs.Index.{Indexes, Indexed};
+ghost use Rattle.index.specs.Index.{clausesWith, Indexes, Indexed};
 ghost use Rattle.index.specs.Study.{Studied, Study};
 ghost use Rattle.weigh.specs.Resolving as weigh;
 ghost use Rattle.weigh.specs.Resolving.{rarestOf, Filed, File};
@@ -26,6 +26,16 @@ pub fn count_with(index: &[u16], literal: u16) -> usize
 {
     let list = clauses_with(index, literal);
     list.len()
+}
+
+// The number of the i-th clause that has the literal.
+pub fn number_with(index: &[u16], literal: u16, i: usize) -> usize
+    requires { ⌜ Indexed (now index) ⌝ }
+    requires { ⌜ ((φ : Formula) → Indexes φ (now index) → i < length (withLit literal (φ .clauses))) ⌝ }
+    ensures { λ r. ⌜ ((φ : Formula) → Indexes φ (now (index .entry)) → r ≡ getD (clausesWith (φ .clauses) literal) i 0) ⌝ }
+{
+    let list = clauses_with(index, literal);
+    list[i] as usize
 }
 
 // The i-th clause that has the literal.
@@ -100,7 +110,7 @@ fn rarer(index: &[u16], l: u16, k: u16) -> u16
 }
 
 // A literal of the clause that is in fewest clauses.
-fn rarest(index: &[u16], clause: &[u16]) -> u16
+pub fn rarest(index: &[u16], clause: &[u16]) -> u16
     requires { ⌜ Indexed (now index) ⌝ }
     requires { ⌜ 0 < length (now clause) ⌝ }
     ensures { λ r. ⌜ ((φ : Formula) → Indexes φ (now (index .entry)) → r ≡ rarestOf (φ .clauses) (getD (now (clause .entry)) 0 0) (drop 1 (now (clause .entry)))) ⌝ }

@@ -14,8 +14,8 @@ returns c =
     let s = c .before .before .before .before .before .before .before in
     λ φ g out. there-first φ (g .well) (s .args .a) (s .args .p .number) _ out _ (c .before .is-clause .ensures φ (filed-of g)) (c .if1 .taken)
 
-came-before-requires : tie.Need-came-before-requires
-came-before-requires c κs = search needs
+is-earlier-requires : tie.Need-is-earlier-requires
+is-earlier-requires c κs = search needs
 
 same-length : tie.Need-same-length
 same-length c = search needs
@@ -26,8 +26,8 @@ returns-2 c =
     let e = b .before .before in
     let s = e .before .before .before .before .before .before .before in
     λ φ g out. there-later φ (g .well) (s .args .a) (s .args .p .number) _ out _ (e .before .is-clause .ensures φ (filed-of g)) (e .if1 .left) _
-    (b .came-before .ensures φ g)
+    (b .is-earlier .ensures φ g)
 
 pub is-there-spec : {M : Type 1} → statement M
 is-there-spec =
-    tie.close (tie.spec is-clause-requires returns came-before-requires same-length returns-2)
+    tie.close (tie.spec is-clause-requires returns is-earlier-requires same-length returns-2)
