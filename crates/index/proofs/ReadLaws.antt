@@ -2,11 +2,11 @@
 -- signatures of the clauses.
 -- Assumes nothing.
 use Prim.Native.Nat.{ℕ, zero, suc, _+_, _-_, _≤_, _<_}
-use mathlib.Core.Path.{_≡_, refl, sym, ap, _∙_}
+use mathlib.Core.Path.{_≡_, refl, sym, ap, ap₂, _∙_}
 use mathlib.Core.Bool.{true, false}
 use mathlib.Core.List.{List, [], _∷_, _++_, map}
 use lib.ListN.{length, getD, take, drop, replicate, length-append, length-take, length-drop}
-use lib.Seq.{take-append-le, take-add, take-all, drop-at, getD-take, getD-drop}
+use lib.Seq.{take-append-le, take-add, take-all, drop-at, drop-drop, getD-take, getD-drop}
 use lib.Dec.{leb}
 use native.Mathlib.Omega.{arith}
 use native.Mathlib.Nat.{add-zero, add-suc}
@@ -180,9 +180,36 @@ module _ {φ : Formula} {index : List ℕ} (h : Indexes φ index) where
               (omega (arith, ap length (h .places), signed-length (2048 + listStart cs 2048) cs (listsOf cs))));
         }
 
+  -- what clauses_of reads: s and e are where the lists of l and of the second next literal begin
+  module _ (l s e : ℕ) (k : l < 2047) (p : s ≡ 2048 + listStart (φ .clauses) l) (q : e ≡ 2048 + listStart (φ .clauses) (l + 2)) where
+    abbrev middle : ℕ
+    middle = 2048 + listStart (φ .clauses) (l + 1)
+
+    upper : e ≡ 2048 + listStart (φ .clauses) ((l + 1) + 1)
+    upper = q ∙ ap (λ (n : ℕ). 2048 + listStart (φ .clauses) n) (omega arith)
+
+    pub pair-there : (s ≤ e) × (e ≤ length index) × (length index ≡ 11261)
+    pair-there =
+        let a = list-there l s middle (omega arith) p refl in
+        let b = list-there (l + 1) middle e (omega arith) refl upper in
+        (omega arith, b .1, b .2)
+
+    pub pair-is : take (e - s) (drop s index) ≡ clausesWith (φ .clauses) l ++ clausesWith (φ .clauses) (l + 1)
+    pair-is =
+        let a = list-there l s middle (omega arith) p refl in
+        let b = list-there (l + 1) middle e (omega arith) refl upper in
+        ap (λ (n : ℕ). take n (drop s index)) (let n : e - s ≡ (middle - s) + (e - middle) = omega arith in n)
+        ∙ take-add (middle - s) (e - middle) (drop s index)
+        ∙ ap₂ (λ (x y : List ℕ). x ++ y) (list-is l s middle (omega arith) p refl)
+        (ap (take (e - middle)) (drop-drop (middle - s) s index ∙ ap (λ (n : ℕ). drop n index) (let n : s + (middle - s) ≡ middle = omega arith in n))
+        ∙ list-is (l + 1) middle e (omega arith) refl upper)
+
   pub list-none : (l : ℕ) → 2047 < l → [] ≡ clausesWith (φ .clauses) l
   unfolding clausesWith
   list-none l k = sym (from-large l 0 (φ .clauses) (small-all φ (h .well) (h .fitting)) k)
+
+  pub pair-none : (l : ℕ) → 2047 < l → [] ≡ clausesWith (φ .clauses) l ++ clausesWith (φ .clauses) (l + 1)
+  pair-none l k = rw (← list-none l k, ← list-none (l + 1) (omega arith))
 
 pub indexed : {φ : Formula} {index : List ℕ} → Indexes φ index → Indexed index
 indexed {φ} {index} h = record { formula = φ; indexes = h }

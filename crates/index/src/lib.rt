@@ -5,6 +5,7 @@ mod signs;
 mod starts;
 
 pub use fill::build_index;
+pub use lists::clauses_of;
 pub use lists::clauses_with;
 pub use signs::may_be_part;
 pub use signs::signature;

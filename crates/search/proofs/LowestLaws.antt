@@ -2,7 +2,7 @@
 -- Assumes nothing.
 use Prim.Native.Nat.{ℕ, zero, suc, _+_, _≤_, _<_}
 use mathlib.Core.Path.{_≡_, refl, sym, ap, _∙_}
-use mathlib.Core.Bool.{Bool, true, false, _&&_, _||_, cond}
+use mathlib.Core.Bool.{Bool, true, false, _&&_, cond}
 use mathlib.Core.List.{List, [], _∷_, foldl}
 use lib.ListN.{length, getD, drop}
 use lib.Dec.{eqb, ltb}
@@ -23,14 +23,18 @@ module _ (t : ℕ → Bool) (best b : ℕ) where
   unfolding lowerIf
   if-higher h = rw (le-ltb b best h)
 
-  module _ (h : b < best) (m : Bool) (is : m ≡ t b) where
-    pub if-passed : m ≡ true → b ≡ lowerIf t best b
+  module _ (m : Bool) (is : m ≡ t b) where
+    pub if-lower : m ≡ true → b < best → b ≡ lowerIf t best b
     unfolding lowerIf
-    if-passed e = rw (lt-ltb b best h, ← is, e)
+    if-lower e h = rw (lt-ltb b best h, ← is, e)
 
     pub if-failed : m ≡ false → best ≡ lowerIf t best b
     unfolding lowerIf
-    if-failed e = rw (lt-ltb b best h, ← is, e)
+    if-failed e = rw (← is, e) (go (ltb b best))
+      where
+        go : (x : Bool) → best ≡ cond (x && false) b best
+        go true = refl
+        go false = refl
 
   if-within : lowerIf t best b ≤ best
   unfolding lowerIf
@@ -91,19 +95,13 @@ module _ (t : ℕ → Bool) where
       omega arith)
       (λ q. low-least (lowerIf t best a) l b (unfold has in q) e)
 
-  -- of two lists together, which have each number that passes
-  pub lowest-both : (n : ℕ) (l k : List ℕ) → ((b : ℕ) → t b ≡ true → (has b l || has b k) ≡ true)
-      → Lowest t n (lowest t (lowest t n l) k)
-  lowest-both n l k all =
-      let m = lowest t n l in
-      let in-l = low-within n l in
-      let in-k = low-within m k in
+  -- of a list that has each number that passes
+  pub lowest-all : (n : ℕ) (l : List ℕ) → ((b : ℕ) → t b ≡ true → has b l ≡ true) → Lowest t n (lowest t n l)
+  lowest-all n l all =
       record {
-        within = omega arith;
-        passes = low-passes n m k (low-passes n n l (λ h. absurd (omega arith)));
-        least = λ b h. false-of (t b) (λ e. or-elim (has b l) (has b k) (all b e)
-            (λ q. let i = low-least n l b q e in omega arith)
-            (λ q. let i = low-least m k b q e in omega arith));
+        within = low-within n l;
+        passes = low-passes n n l (λ h. absurd (omega arith));
+        least = λ b h. false-of (t b) (λ e. let i = low-least n l b (all b e) e in omega arith);
       }
 
   pub lowest-none : (n : ℕ) → ((b : ℕ) → t b ≡ false) → Lowest t n n

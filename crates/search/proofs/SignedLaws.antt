@@ -6,9 +6,10 @@ use mathlib.Core.Bool.{Bool, true, false, _||_, not}
 use mathlib.Core.List.{List, []}
 use lib.ListN.{length, getD}
 use lib.Dec.{eqb}
+use borrow.Author.Tests.{ltb-true}
 use Rattle.meaning.specs.Lists.{allOf, keepIf, has, partOf, without}
 use Rattle.meaning.specs.Formula.{Formula, var, opposite, isVar, mentions}
-use Rattle.rules.specs.Simplify.{clauseAt, subsumePermitted, strengthenPermitted, strengthenLit}
+use Rattle.rules.specs.Simplify.{clauseAt, isClause, subsumePermitted, strengthenPermitted, strengthenLit}
 use Rattle.index.specs.Signs.{signatureOf, variablesIn}
 use Rattle.search.specs.Candidates.{Signed}
 use Rattle.meaning.proofs.Basics.{by-cases, false-of, clash, or-il, or-ir, or-elim, eqb-true, eqb-eq}
@@ -25,13 +26,13 @@ module _ (φ : Formula) (a b : ℕ) where
   abbrev at : ℕ → List ℕ
   at i = clauseAt (φ .clauses) i
 
-  pub subsume-variables : subsumePermitted φ a b ≡ true → variablesIn (at a) (at b) ≡ true
+  subsume-variables : subsumePermitted φ a b ≡ true → variablesIn (at a) (at b) ≡ true
   unfolding variablesIn partOf
   subsume-variables e =
       all-le (λ l. has l (at b)) (λ l. mentions (at b) (var l)) (at a) (λ l h. mentioned (at b) l l refl h) (subsume-says φ a b e .part)
 
   -- what clause a strengthens has each literal of it, or its opposite
-  pub strengthen-either : (l : ℕ) → has l (at a) ≡ true → strengthenPermitted φ a b ≡ true → (has l (at b) || has (opposite l) (at b)) ≡ true
+  strengthen-either : (l : ℕ) → has l (at a) ≡ true → strengthenPermitted φ a b ≡ true → (has l (at b) || has (opposite l) (at b)) ≡ true
   unfolding partOf without
   strengthen-either l i e =
       let s = strengthen-says φ a b e in
@@ -49,10 +50,22 @@ module _ (φ : Formula) (a b : ℕ) where
       (λ q. mentioned (at b) l l refl q)
       (λ q. mentioned (at b) l (opposite l) (var-opp l) q))
 
+  -- what both steps need of b: it is there, and has the variables of a
+  abbrev Needs : Type 0
+  Needs = (b < length (φ .clauses)) × (variablesIn (at a) (at b) ≡ true)
+
+  pub subsume-needs : subsumePermitted φ a b ≡ true → Needs
+  unfolding isClause
+  subsume-needs e = (ltb-true b (length (φ .clauses)) (subsume-says φ a b e .there-b), subsume-variables e)
+
+  pub strengthen-needs : strengthenPermitted φ a b ≡ true → Needs
+  unfolding isClause
+  strengthen-needs e = (ltb-true b (length (φ .clauses)) (strengthen-says φ a b e .there-b), strengthen-variables e)
+
   -- so where m, the answer of may_be_part, is no, the test t fails
-  pub unsigned : {signs : List ℕ} {sign : ℕ} {x : List ℕ} → Signed φ signs sign x a → b < length (φ .clauses)
+  pub unsigned : {signs : List ℕ} {sign : ℕ} {x : List ℕ} → Signed φ signs sign x a
       → (m : Bool) → ((x y : List ℕ) → sign ≡ signatureOf x → (b < length signs → getD signs b 0 ≡ signatureOf y) → variablesIn x y ≡ true → m ≡ true)
-      → m ≡ false → (t : Bool) → (t ≡ true → variablesIn (at a) (at b) ≡ true) → false ≡ t
+      → m ≡ false → (t : Bool) → (t ≡ true → Needs) → false ≡ t
   unfolding clauseAt
-  unsigned {signs} {sign} {x} s k m may n t vars =
-      sym (false-of t (λ e. clash (may x (at b) (s .own) (λ l. s .all .each b k l) (rw (s .is) (vars e))) n))
+  unsigned {signs} {sign} {x} s m may n t needs =
+      sym (false-of t (λ e. let k = needs e in clash (may x (at b) (s .own) (λ l. s .all .each b (k .0) l) (rw (s .is) (k .1))) n))

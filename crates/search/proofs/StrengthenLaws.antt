@@ -1,15 +1,15 @@
 -- Kind 4, strengthen: the test of one clause, which clauses are enough to look at, and the lowest of them.
 -- Assumes nothing.
-use Prim.Native.Nat.{ℕ, zero, suc, _+_, _≤_, _<_}
+use Prim.Native.Nat.{ℕ, zero, suc, _+_, _*_, _≤_, _<_}
 use mathlib.Core.Path.{_≡_, refl, sym, ap, _∙_}
 use mathlib.Core.Bool.{Bool, true, false, _||_}
-use mathlib.Core.List.{List, [], _∷_}
+use mathlib.Core.List.{List, [], _∷_, _++_}
 use lib.ListN.{length, getD}
 use lib.Dec.{eqb}
 use borrow.Author.Tests.{ltb-true}
 use native.Mathlib.Omega.{arith}
 use Rattle.meaning.specs.Lists.{anyOf, has, upFrom}
-use Rattle.meaning.specs.Formula.{Formula, opposite, existential}
+use Rattle.meaning.specs.Formula.{Formula, var, odd, opposite, isVar, mentions}
 use Rattle.meaning.specs.WellFormed.{ascends, wellFormed}
 use Rattle.rules.specs.Entry.{strengthen, usesB}
 use Rattle.rules.specs.Simplify.{clauseAt, isClause, strengthens, strengthenPermitted, strengthenLit}
@@ -18,10 +18,12 @@ use Rattle.rules.specs.Choice.{indices, seconds}
 use Rattle.table.specs.Table.{Holds}
 use Rattle.table.specs.declared.Counts.{Counts}
 use Rattle.index.specs.Index.{clausesWith}
+use Rattle.index.specs.Signs.{variablesIn}
 use Rattle.search.specs.Candidates.{foundAs, firstFor, someStrengthens, lowest, Lowest}
 use Rattle.search.specs.declared.Found.the-variants.{Nothing, Pair}
-use Rattle.meaning.proofs.Basics.{by-cases, false-of, clash, or-il, or-ir, or-elim, eqb-false}
-use Rattle.meaning.proofs.Lists.{has-keep}
+use Rattle.meaning.proofs.Basics.{by-cases, false-of, clash, or-il, or-ir, or-elim, eqb-true, eqb-false}
+use Rattle.meaning.proofs.Lists.{any-append, any-witness, all-has, has-keep}
+use Rattle.meaning.proofs.Literals.{plain-is, negated-is}
 use Rattle.meaning.proofs.Ascends.{once-opp}
 use Rattle.rules.proofs.Permitted.{strengthen-says}
 use Rattle.table.proofs.HoldLaws.{count-clauses}
@@ -29,8 +31,8 @@ use Rattle.permits.proofs.ClauseLaws.{absent, present}
 use Rattle.index.proofs.ClauseLaws.{with-kept}
 use Rattle.search.proofs.StudyLaws.{clause-rises}
 use Rattle.search.proofs.MergeLaws.{strong-longer}
-use Rattle.search.proofs.SignedLaws.{strengthen-either}
-use Rattle.search.proofs.LowestLaws.{lowest-both, lowest-none, lowest-nothing, lowest-found}
+use Rattle.search.proofs.SignedLaws.{strengthen-variables}
+use Rattle.search.proofs.LowestLaws.{lowest-all, lowest-none, lowest-nothing, lowest-found}
 
 -- The test of one clause: x is clause a --------------------------------------------------------------------------
 module _ {φ : Formula} {t : List ℕ} {c : Counts} (h : Holds φ t c) (a b : ℕ) (k : a < c .clauses) where
@@ -57,6 +59,25 @@ module _ {φ : Formula} {t : List ℕ} {c : Counts} (h : Holds φ t c) (a b : �
         strong-is false (sym (strong-longer (φ .prefix) x y (clause-rises h w a k x at-a) (clause-rises h w b n y at-b) m))
 
 -- Which clauses are enough ---------------------------------------------------------------------------------------
+-- a clause with a variable has one of its two literals
+either : (y : List ℕ) (v : ℕ) → mentions y v ≡ true → (has (2 * v) y || has (2 * v + 1) y) ≡ true
+unfolding mentions isVar
+either y v e =
+    let w = any-witness (λ q. eqb (var q) v) y e in
+    let q = eqb-true (var (w .0)) v (w .2) in
+    by-cases (odd (w .0))
+    (λ o. or-ir (has (2 * v) y) (has (2 * v + 1) y)
+    (ap (λ (k : ℕ). has k y) (sym (negated-is (w .0) o ∙ ap (λ (n : ℕ). 2 * n + 1) q)) ∙ w .1))
+    (λ o. or-il (has (2 * v) y) (has (2 * v + 1) y) (ap (λ (k : ℕ). has k y) (sym (plain-is (w .0) o ∙ ap (λ (n : ℕ). 2 * n) q)) ∙ w .1))
+
+-- a variable of x, where all of them are in y
+all-mentioned : (x y : List ℕ) (v : ℕ) → variablesIn x y ≡ true → mentions x v ≡ true → mentions y v ≡ true
+unfolding variablesIn mentions isVar
+all-mentioned x y v a i =
+    let w = any-witness (λ q. eqb (var q) v) x i in
+    let q = eqb-true (var (w .0)) v (w .2) in
+    ap (λ (n : ℕ). anyOf (λ k. eqb (var k) n) y) (sym q) ∙ all-has (λ l. anyOf (λ k. eqb (var k) (var l)) y) x (w .0) a (w .1)
+
 has-up : (s n b : ℕ) → s ≤ b → b < s + n → has b (upFrom s n) ≡ true
 unfolding upFrom has anyOf
 has-up s zero b h k = absurd (omega arith)
@@ -65,12 +86,24 @@ has-up s (suc n) b h k =
     (λ q. or-il (eqb b s) (anyOf (λ i. eqb b i) (upFrom (suc s) n)) q)
     (λ q. let d = eqb-false b s q in or-ir (eqb b s) (anyOf (λ i. eqb b i) (upFrom (suc s) n)) (has-up (suc s) n b (omega arith) (omega arith)))
 
--- a clause with the literal is in the list of that
-listed : (φ : Formula) (l b : ℕ) → b < length (φ .clauses) → has l (clauseAt (φ .clauses) b) ≡ true → has b (clausesWith (φ .clauses) l) ≡ true
+-- a clause with the variable is in one of its two lists
+listed : (φ : Formula) (v b : ℕ) → b < length (φ .clauses) → mentions (clauseAt (φ .clauses) b) v ≡ true
+    → has b (clausesWith (φ .clauses) (2 * v) ++ clausesWith (φ .clauses) (2 * v + 1)) ≡ true
 unfolding clauseAt
-listed φ l b h e =
-    let cs = φ .clauses in
-    rw (with-kept cs l) (has-keep (λ i. has l (getD cs i [])) (upFrom 0 (length cs)) b (has-up 0 (length cs) b (omega arith) (omega arith)) e)
+listed φ v b h e =
+    joined (or-elim (has (2 * v) (getD (φ .clauses) b [])) (has (2 * v + 1) (getD (φ .clauses) b [])) (either (getD (φ .clauses) b []) v e)
+    (λ q. or-il (has b (clausesWith (φ .clauses) (2 * v))) (has b (clausesWith (φ .clauses) (2 * v + 1))) (one (2 * v) q))
+    (λ q. or-ir (has b (clausesWith (φ .clauses) (2 * v))) (has b (clausesWith (φ .clauses) (2 * v + 1))) (one (2 * v + 1) q)))
+  where
+    one : (l : ℕ) → has l (getD (φ .clauses) b []) ≡ true → has b (clausesWith (φ .clauses) l) ≡ true
+    one l i =
+        rw (with-kept (φ .clauses) l)
+        (has-keep (λ j. has l (getD (φ .clauses) j [])) (upFrom 0 (length (φ .clauses))) b
+        (has-up 0 (length (φ .clauses)) b (omega arith) (omega arith)) i)
+
+    joined : (has b (clausesWith (φ .clauses) (2 * v)) || has b (clausesWith (φ .clauses) (2 * v + 1))) ≡ true
+        → has b (clausesWith (φ .clauses) (2 * v) ++ clausesWith (φ .clauses) (2 * v + 1)) ≡ true
+    joined j = unfold has in any-append (λ k. eqb b k) (clausesWith (φ .clauses) (2 * v)) (clausesWith (φ .clauses) (2 * v + 1)) ∙ (unfold has in j)
 
 inside : (φ : Formula) (a b : ℕ) → strengthenPermitted φ a b ≡ true → b < length (φ .clauses)
 unfolding isClause
@@ -89,19 +122,14 @@ module _ {φ : Formula} {t : List ℕ} {c : Counts} (h : Holds φ t c) (a : ℕ)
         none [] q l i = clash i (unfold has anyOf in refl)
         none (m ∷ y) q l i = omega arith
 
-    -- u and v are the clauses with a literal of x and with its opposite
-    pub strong-lowest : (l o : ℕ) → has l x ≡ true → o ≡ opposite l → (u v : List ℕ) → u ≡ clausesWith (φ .clauses) l
-        → v ≡ clausesWith (φ .clauses) o → (best r : ℕ) → best ≡ lowest (strengthenPermitted φ a) (c .clauses) u
-        → r ≡ lowest (strengthenPermitted φ a) best v → Lowest (strengthenPermitted φ a) (c .clauses) r
+    -- s are the clauses with a variable v of x
+    pub strong-lowest : (v : ℕ) → mentions x v ≡ true → (s : List ℕ) → s ≡ clausesWith (φ .clauses) (2 * v) ++ clausesWith (φ .clauses) (2 * v + 1)
+        → (r : ℕ) → r ≡ lowest (strengthenPermitted φ a) (c .clauses) s → Lowest (strengthenPermitted φ a) (c .clauses) r
     unfolding clauseAt
-    strong-lowest l o i opp u v is-u is-v best r e f = rw (f, e) (lowest-both (strengthenPermitted φ a) (c .clauses) u v all)
+    strong-lowest v i s is r e = rw e (lowest-all (strengthenPermitted φ a) (c .clauses) s all)
       where
-        all : (b : ℕ) → strengthenPermitted φ a b ≡ true → (has b u || has b v) ≡ true
-        all b s =
-            let y = clauseAt (φ .clauses) b in
-            or-elim (has l y) (has (opposite l) y) (strengthen-either φ a b l (rw at-a at i) s)
-            (λ q. or-il (has b u) (has b v) (rw is-u (listed φ l b (inside φ a b s) q)))
-            (λ q. or-ir (has b u) (has b v) (rw (is-v, opp) (listed φ (opposite l) b (inside φ a b s) q)))
+        all : (b : ℕ) → strengthenPermitted φ a b ≡ true → has b s ≡ true
+        all b p = rw is (listed φ v b (inside φ a b p) (all-mentioned (clauseAt (φ .clauses) a) (clauseAt (φ .clauses) b) v (strengthen-variables φ a b p) (rw at-a at i)))
 
   pub strong-nothing : (r : ℕ) → Lowest (strengthenPermitted φ a) (c .clauses) r → c .clauses ≤ r → Nothing ≡ foundAs (firstFor φ strengthen a)
   unfolding firstFor permitted seconds usesB indices

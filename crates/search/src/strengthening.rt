@@ -14,14 +14,13 @@ ghost use Rattle.index.specs.Study.{Studied, Study};
 ghost use Rattle.search.specs.Candidates.{foundAs, Signed, lowerIf, lowest, Lowest};
 use crate::Found;
 use crate::merges::strengthens_part;
-use crate::rarity::rarest_of_both;
-use index::clauses_with;
+use crate::rarity::rarest_variable;
+use index::clauses_of;
 use index::may_be_part;
 use index::signature;
 use index::signatures;
 use table::Counts;
 use table::clause_at;
-use table::flip;
 
 // Whether there is a clause b, and some literal of x, which is clause a, strengthens it.
 fn is_strengthened(
@@ -39,13 +38,13 @@ fn is_strengthened(
     requires { ⌜ a < c .clauses ⌝ }
     ensures { λ r. ⌜ ((φ : Formula) → Holds φ (now (t .entry)) c → wellFormed φ ≡ true → now (ranks .entry) ≡ ranksOf (φ .prefix) → Signed φ (now (signs .entry)) sign (now (x .entry)) a → r ≡ strengthenPermitted φ a b) ⌝ }
 {
-    if c.clauses <= b {
-        return false;
-    }
-    if a == b {
-        return false;
-    }
     if may_be_part(signs, sign, b) {
+        if c.clauses <= b {
+            return false;
+        }
+        if a == b {
+            return false;
+        }
         let y = clause_at(t, c, b);
         if y.len() < x.len() {
             return false;
@@ -72,11 +71,11 @@ fn lower_of(
     requires { ⌜ a < c .clauses ⌝ }
     ensures { λ r. ⌜ ((φ : Formula) → Holds φ (now (t .entry)) c → wellFormed φ ≡ true → now (ranks .entry) ≡ ranksOf (φ .prefix) → Signed φ (now (signs .entry)) sign (now (x .entry)) a → r ≡ lowerIf (strengthenPermitted φ a) best b) ⌝ }
 {
-    if best <= b {
-        return best;
-    }
     if is_strengthened(t, c, ranks, signs, sign, x, a, b) {
-        return b;
+        if b < best {
+            return b;
+        }
+        return best;
     }
     best
 }
@@ -107,8 +106,8 @@ fn lowest_among(
     low
 }
 
-// The lowest clause that clause a strengthens, or the number of clauses. What a strengthens has each literal of a or its opposite, so
-// those with one of them, and with its opposite, are looked at.
+// The lowest clause that clause a strengthens, or the number of clauses. What a strengthens has each variable of a, so those with one of
+// them are looked at.
 fn strengthened_by(t: &[u16], c: Counts, ranks: &[u16], index: &[u16], a: usize) -> usize
     requires { ⌜ Study (now t) c (now ranks) (now index) ⌝ }
     requires { ⌜ a < c .clauses ⌝ }
@@ -120,8 +119,8 @@ fn strengthened_by(t: &[u16], c: Counts, ranks: &[u16], index: &[u16], a: usize)
     }
     let signs = signatures(index);
     let sign = signature(x);
-    let l = rarest_of_both(index, x);
-    let best = lowest_among(
+    let v = rarest_variable(index, x);
+    lowest_among(
         t,
         c,
         ranks,
@@ -129,11 +128,9 @@ fn strengthened_by(t: &[u16], c: Counts, ranks: &[u16], index: &[u16], a: usize)
         sign,
         x,
         a,
-        clauses_with(index, l),
+        clauses_of(index, v),
         c.clauses,
-    );
-    let k = flip(l);
-    lowest_among(t, c, ranks, signs, sign, x, a, clauses_with(index, k), best)
+    )
 }
 
 pub fn find_strengthen(t: &[u16], c: Counts, ranks: &[u16], index: &[u16]) -> Found

@@ -35,13 +35,13 @@ fn is_subsumed(
     requires { ⌜ a < c .clauses ⌝ }
     ensures { λ r. ⌜ ((φ : Formula) → Holds φ (now (t .entry)) c → wellFormed φ ≡ true → Signed φ (now (signs .entry)) sign (now (x .entry)) a → r ≡ subsumePermitted φ a b) ⌝ }
 {
-    if c.clauses <= b {
-        return false;
-    }
-    if a == b {
-        return false;
-    }
     if may_be_part(signs, sign, b) {
+        if c.clauses <= b {
+            return false;
+        }
+        if a == b {
+            return false;
+        }
         let y = clause_at(t, c, b);
         if y.len() < x.len() {
             return false;

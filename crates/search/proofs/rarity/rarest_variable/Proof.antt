@@ -4,11 +4,10 @@ use Prim.Native.Nat.{_≤_, _<_, _-_}
 use native.Mathlib.Omega.{arith}
 use mathlib.Core.Logic.{⊎-elim}
 use lib.ListN.{length}
-use Rattle.search.proofs.PrefixLaws.{has-at}
 use borrow.Author.Needs.{needs}
-use Rattle.search.proofs.rarity.rarest_of_both.Statement.{statement}
-use Rattle.search.proofs.rarity.rarest_of_both.Tie as tie
-use Rattle.search.proofs.rarity.count_both.Reads as count-both-reads
+use Rattle.search.proofs.PrefixLaws.{mentions-at}
+use Rattle.search.proofs.rarity.rarest_variable.Statement.{statement}
+use Rattle.search.proofs.rarity.rarest_variable.Tie as tie
 
 abbrev Inv-loop : tie.InvT-loop
 Inv-loop index clause best₀ least₀ i₀ best least i = (i ≤ length clause) × (best < length clause)
@@ -16,23 +15,23 @@ Inv-loop index clause best₀ least₀ i₀ best least i = (i ≤ length clause)
 abbrev μ-loop : tie.MeasureT-loop
 μ-loop index clause best₀ least₀ i₀ best least i = length clause - i
 
-shared-slice-read-count-both : tie.Need-shared-slice-read-count-both Inv-loop μ-loop
-shared-slice-read-count-both c = search needs
+shared-slice-read-clauses-of : tie.Need-shared-slice-read-clauses-of Inv-loop μ-loop
+shared-slice-read-clauses-of c = search needs
 
-count-both-requires : tie.Need-count-both-requires Inv-loop μ-loop
-count-both-requires c κs = search needs
+clauses-of-requires : tie.Need-clauses-of-requires Inv-loop μ-loop
+clauses-of-requires c κs = search needs
 
 loop-holds : tie.Need-loop-holds Inv-loop μ-loop
 loop-holds c = search needs
 
-mul-count-both : tie.Need-mul-count-both Inv-loop μ-loop
-mul-count-both c = search needs
+mul-clauses-of : tie.Need-mul-clauses-of Inv-loop μ-loop
+mul-clauses-of c = search needs
 
-shared-slice-read-count-both-2 : tie.Need-shared-slice-read-count-both-2 Inv-loop μ-loop
-shared-slice-read-count-both-2 c = search needs
+shared-slice-read-clauses-of-2 : tie.Need-shared-slice-read-clauses-of-2 Inv-loop μ-loop
+shared-slice-read-clauses-of-2 c = search needs
 
-count-both-requires-2 : tie.Need-count-both-requires-2 Inv-loop μ-loop
-count-both-requires-2 c κs = search needs
+clauses-of-requires-2 : tie.Need-clauses-of-requires-2 Inv-loop μ-loop
+clauses-of-requires-2 c κs = search needs
 
 add-i : tie.Need-add-i Inv-loop μ-loop
 add-i c = search needs
@@ -52,20 +51,20 @@ shared-slice-read-result c = search needs
 returns : tie.Need-returns Inv-loop μ-loop
 returns c =
     let l = c .before .before in
-    has-at (l .before .before .before .before .before .args .clause .now) (l .loop .best) (l .loop .inv .1)
+    mentions-at (l .before .before .before .before .before .args .clause .now) (l .loop .best) (l .loop .inv .1)
 
-pub rarest-of-both-spec : {M : Type 1} → statement M
-rarest-of-both-spec =
+pub rarest-variable-spec : {M : Type 1} → statement M
+rarest-variable-spec =
     tie.close
     (tie.spec
     Inv-loop
     μ-loop
-    shared-slice-read-count-both
-    count-both-requires
+    shared-slice-read-clauses-of
+    clauses-of-requires
     loop-holds
-    mul-count-both
-    shared-slice-read-count-both-2
-    count-both-requires-2
+    mul-clauses-of
+    shared-slice-read-clauses-of-2
+    clauses-of-requires-2
     add-i
     loop-less
     loop-again
