@@ -27,7 +27,7 @@ use Rattle.index.proofs.ClauseLaws.{with-length}
 use Rattle.weigh.proofs.AnyLaws.{any-and, any-either, none}
 use Rattle.weigh.proofs.ListedLaws.{listed-take}
 use Rattle.weigh.proofs.ResolvPairs.{one-length}
-use Rattle.weigh.proofs.ResolvPrefix.{tidy-drop}
+use Rattle.meaning.proofs.TidyPrefix.{tidy-drop}
 use Rattle.weigh.proofs.ResolvResult.{raws-bound, raw-free}
 use Rattle.weigh.proofs.ResolvRows.{row-is, any-row, all-part}
 use Rattle.weigh.proofs.ResolvPending.{not-covered}
