@@ -29,6 +29,14 @@ left (DropAt b l) v i c = not (eqb i b) && not (mentions c v)
 left (Replace l m) v i c = not (mentions c v)
 left (Copy l s n) v i c = false
 
+-- no clause is
+unfoldable pub leavesNone : Turn → Bool
+leavesNone Same = false
+leavesNone (Drop l) = false
+leavesNone (DropAt b l) = false
+leavesNone (Replace l m) = false
+leavesNone (Copy l s n) = true
+
 -- the clause is none of the others, and what becomes of it is the clause, where it is left as it was. q is the new prefix
 pub record Lasts (t : Turn) (v : ℕ) (q : List ℕ) (others : List (List ℕ)) (i : ℕ) (c : List ℕ) : Type 0 where
   pub apart : anyOf (same c) others ≡ false

@@ -19,7 +19,6 @@ use crate::copies::count_inner;
 use crate::copies::push_copies;
 use crate::prefixes::copy_prefix;
 use crate::rebuilding::add_all;
-use crate::turning::add_all_turned;
 use permits::place_of;
 use table::Counts;
 use table::Pushed;
@@ -58,11 +57,12 @@ fn add_halves(
         ranks,
     ) {
         Pushed::Done(e) => {
-            add_all_turned(
+            add_all(
                 source,
                 c,
                 target,
                 e,
+                v,
                 Which::Far(s, plain),
                 Turn::Copy(negated, s, n),
                 scratch,

@@ -21,6 +21,8 @@ use crate::prefixes::copy_prefix;
 use crate::recipes::feed;
 use crate::recipes::is_left;
 use crate::recipes::is_taken;
+use crate::recipes::leaves_none;
+use crate::turning::add_each_turned;
 use filter::add_apart;
 use filter::close_stamped;
 use filter::cover;
@@ -137,8 +139,8 @@ fn add_each(
     Pushed::Done(e)
 }
 
-// What becomes of all clauses of the source, where variable v is dropped and the turn is about no other. The filter is made here, so
-// that it is on the stack once only.
+// What becomes of all clauses of the source, where variable v is dropped and the turn is about no other. The filter is made here for
+// either way, so that it is on the stack once only.
 pub fn add_all(
     source: &[u16],
     c: Counts,
@@ -159,6 +161,19 @@ pub fn add_all(
 {
     let mut filter = [0u64; 128];
     cover(target, d, &mut filter);
+    if leaves_none(turn) {
+        return add_each_turned(
+            source,
+            c,
+            target,
+            d,
+            which,
+            turn,
+            scratch,
+            ranks,
+            &mut filter,
+        );
+    }
     add_each(
         source,
         c,

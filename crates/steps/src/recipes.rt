@@ -9,7 +9,7 @@ ghost use Rattle.meaning.specs.Formula.{opposite, mentions};
 ghost use Rattle.rules.specs.Simplify.{replaceLit};
 ghost use Rattle.table.specs.Pending.{Pends, Pended};
 ghost use Rattle.steps.specs.Recipe.{Ready, reaches, neither, copyOf, copied, less, taken, turned, someOf, fed};
-ghost use Rattle.steps.specs.Left.{left};
+ghost use Rattle.steps.specs.Left.{left, leavesNone};
 use crate::Turn;
 use crate::Which;
 use permits::place_of;
@@ -146,6 +146,19 @@ pub fn is_left(turn: Turn, v: u16, i: usize, clause: &[u16]) -> bool
         }
         Turn::Replace(_, _) => lacks(clause, v),
         Turn::Copy(_, _, _) => false,
+    }
+}
+
+// Whether no clause is left as it was.
+pub fn leaves_none(turn: Turn) -> bool
+    ensures { λ r. ⌜ r ≡ leavesNone turn ⌝ }
+{
+    match turn {
+        Turn::Same => false,
+        Turn::Drop(_) => false,
+        Turn::DropAt(_, _) => false,
+        Turn::Replace(_, _) => false,
+        Turn::Copy(_, _, _) => true,
     }
 }
 

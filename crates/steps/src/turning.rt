@@ -13,7 +13,6 @@ use crate::Which;
 use crate::recipes::feed;
 use crate::recipes::is_taken;
 use filter::close_filtered;
-use filter::cover;
 use table::Counts;
 use table::Pending;
 use table::Pushed;
@@ -55,7 +54,7 @@ fn add_turned(
 }
 
 // What becomes of all clauses of the source. The filter covers the target.
-fn add_each_turned(
+pub fn add_each_turned(
     source: &[u16],
     c: Counts,
     target: &mut [u16],
@@ -98,36 +97,4 @@ fn add_each_turned(
         i += 1;
     }
     Pushed::Done(e)
-}
-
-// What becomes of all clauses of the source. The filter is made here, so that it is on the stack once only.
-pub fn add_all_turned(
-    source: &[u16],
-    c: Counts,
-    target: &mut [u16],
-    d: Counts,
-    which: Which,
-    turn: Turn,
-    scratch: &mut [u16],
-    ranks: &[u16],
-) -> Pushed
-    requires { ⌜ Held (now source) c ⌝ }
-    requires { ⌜ Held (now target) d ⌝ }
-    requires { ⌜ Ready (take (d .variables) (now target)) (now ranks) ⌝ }
-    requires { ⌜ length (now scratch) ≡ 1023 ⌝ }
-    ensures { λ r. ⌜ ((φ ψ : Formula) → Holds φ (now (source .entry)) c → Holds ψ (now (target .entry)) d → Built (withRaws ψ (rawsBy which turn (ψ .prefix) 0 (φ .clauses))) (d .second) r (now (target .exit))) ⌝ }
-{
-    let mut filter = [0u64; 128];
-    cover(target, d, &mut filter);
-    add_each_turned(
-        source,
-        c,
-        target,
-        d,
-        which,
-        turn,
-        scratch,
-        ranks,
-        &mut filter,
-    )
 }

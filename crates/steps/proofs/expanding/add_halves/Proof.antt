@@ -1,9 +1,10 @@
 -- One recipe after another.
 -- Assumes nothing.
-use mathlib.Core.Path.{_∙_}
+use mathlib.Core.Path.{refl, _∙_}
 use Rattle.table.proofs.HoldLaws.{held}
+use Rattle.steps.specs.Left.{about}
 use Rattle.steps.proofs.BuildLaws.{built-done}
-use Rattle.steps.proofs.RawLaws.{ready-after}
+use Rattle.steps.proofs.RawLaws.{ready-after, shrunk-after}
 use Rattle.steps.proofs.GivenLaws.{about-plain}
 use Rattle.steps.proofs.ExpandLaws.{halves-full, halves-done}
 use borrow.Author.Needs.{needs}
@@ -27,15 +28,16 @@ add-all-requires c κs =
 enum-known-e : tie.Need-enum-known-e
 enum-known-e c = search needs
 
-add-all-turned-requires : tie.Need-add-all-turned-requires
-add-all-turned-requires c κs =
+add-all-requires-2 : tie.Need-add-all-requires-2
+add-all-requires-2 c κs =
     let e = c .before .before .before in
     let k = e .before .before .before .before .before .before in
     let s = k .before .before .before .before .before .before .before in
     let b = k .add-all .ensures (s .pre .0 .formula) (s .pre .1 .0 .formula) (s .pre .0 .holds) (s .pre .1 .0 .holds) in
     let h = built-done _ _ _ _ b _ (e .e .given .1) in
     let ready = ready-after (s .pre .1 .0 .holds) (s .pre .1 .1 .0) _ _ _ _ b _ (e .e .given .1) in
-    (s .pre .0, (held h, (ready, k .add-all .kept .1 .1 .1 .1 .1 .1 .1 .0 ∙ s .pre .1 .1 .1 .0 .0)))
+    let shrunk = shrunk-after (s .pre .1 .0 .holds) (s .pre .1 .1 .1 .1) _ _ _ _ b _ (e .e .given .1) in
+    (s .pre .0, (held h, (ready, (k .add-all .kept .1 .1 .1 .1 .1 .1 .1 .0 ∙ s .pre .1 .1 .1 .0 .0, (shrunk, unfold about in refl)))))
 
 enum-told : tie.Need-enum-told
 enum-told c = search needs
@@ -52,7 +54,7 @@ returns c =
     let e = a .before .before .before .before in
     let k = e .before .before .before .before .before .before in
     λ φ ψ h i. let b = k .add-all .ensures φ ψ h i in
-    halves-done _ _ _ ψ (φ .clauses) _ _ _ b _ (e .e .given .1) _ _ (a .add-all-turned .ensures φ _ h (built-done _ _ _ _ b _ (e .e .given .1)))
+    halves-done _ _ _ ψ (φ .clauses) _ _ _ b _ (e .e .given .1) _ _ (a .add-all2 .ensures φ _ h (built-done _ _ _ _ b _ (e .e .given .1)))
 
 same-length-3 : tie.Need-same-length-3
 same-length-3 c = search needs
@@ -74,7 +76,7 @@ add-halves-spec =
     add-negated
     add-all-requires
     enum-known-e
-    add-all-turned-requires
+    add-all-requires-2
     enum-told
     same-length
     same-length-2
