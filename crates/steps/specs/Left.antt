@@ -13,7 +13,7 @@ use Rattle.steps.specs.Recipe.{fed}
 use Rattle.steps.specs.declared.Turn.{Turn}
 use Rattle.steps.specs.declared.Turn.the-variants.{Same, Drop, DropAt, Replace, Copy}
 
--- the turn changes literals of v only, or of one clause only
+-- a turn for every clause changes literals of v only; one for a single clause, and one that leaves no clause, may change any
 unfoldable pub about : Turn → ℕ → Bool
 about Same v = true
 about (Drop l) v = eqb (var l) v
@@ -21,7 +21,7 @@ about (DropAt b l) v = true
 about (Replace l m) v = eqb (var l) v
 about (Copy l s n) v = true
 
--- clause i is left as it was
+-- clause i is left as it was: it has no literal of v, and the turn is not about this clause
 unfoldable pub left : Turn → ℕ → ℕ → List ℕ → Bool
 left Same v i c = not (mentions c v)
 left (Drop l) v i c = not (mentions c v)
@@ -29,7 +29,7 @@ left (DropAt b l) v i c = not (eqb i b) && not (mentions c v)
 left (Replace l m) v i c = not (mentions c v)
 left (Copy l s n) v i c = false
 
--- no clause is
+-- no clause is left as it was
 unfoldable pub leavesNone : Turn → Bool
 leavesNone Same = false
 leavesNone (Drop l) = false
