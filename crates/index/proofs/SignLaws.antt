@@ -1,8 +1,8 @@
 -- Signatures: that of a clause is a part of that of any clause with all its variables; and where they stand in a table.
 -- Assumes nothing.
 use Prim.Native.Nat.{ℕ, zero, suc, _+_, _*_, _/_, _%_, _^_, _≤_, _<_}
-use mathlib.Core.Path.{_≡_, refl, sym, ap, _∙_}
-use mathlib.Core.Bool.{Bool, true, false}
+use mathlib.Core.Path.{_≡_, refl, sym, _∙_}
+use mathlib.Core.Bool.{true, false}
 use mathlib.Core.List.{List, [], _∷_, foldl}
 use lib.Bits.{bitOr, or-zero-r}
 use lib.Dec.{eqb}
@@ -13,7 +13,7 @@ use native.Mathlib.Numerals.{add-one}
 use native.Mathlib.Omega.{arith}
 use Rattle.meaning.specs.Lists.{allOf, anyOf, has, partOf}
 use Rattle.meaning.specs.Formula.{var, isVar, mentions}
-use Rattle.index.specs.Signs.{bitOf, signOn, signatureOf, variablesIn, signed, Signs}
+use Rattle.index.specs.Signs.{bitOf, signOn, signatureOf, variablesIn, signed}
 use Rattle.meaning.proofs.Folds.{fold-turn}
 use Rattle.meaning.proofs.Basics.{and-l, and-r, or-elim, clash, eqb-true, eqb-eq}
 use Rattle.index.proofs.BitLaws.{bit-is, part-own, part-stays, part-both}

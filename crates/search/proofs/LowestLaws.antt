@@ -9,10 +9,8 @@ use lib.Dec.{eqb, ltb}
 use borrow.Author.Tests.{lt-ltb, le-ltb, ltb-true, ltb-false}
 use native.Mathlib.Omega.{arith}
 use Rattle.meaning.specs.Lists.{anyOf, has, upFrom}
-use Rattle.rules.specs.Choice as rules
 use Rattle.rules.specs.Choice.{none, found, firstB}
 use Rattle.search.specs.Candidates.{foundAs, lowerIf, lowest, Lowest}
-use Rattle.search.specs.declared.Found.{Found}
 use Rattle.search.specs.declared.Found.the-variants.{Nothing, Pair}
 use Rattle.meaning.proofs.Folds.{fold-turn, fold-end}
 use Rattle.meaning.proofs.Basics.{by-cases, false-of, clash, and-r, or-elim, eqb-true, eqb-false}

@@ -1,8 +1,8 @@
 -- Two ascending clauses by their first literals: which of them can be passed, for the part test and for the strengthening test.
 -- Assumes nothing.
-use Prim.Native.Nat.{ℕ, suc, _+_, _*_, _/_, _≤_, _<_}
+use Prim.Native.Nat.{ℕ, _+_, _*_, _/_, _≤_, _<_}
 use mathlib.Core.Path.{_≡_, refl, sym, ap, _∙_}
-use mathlib.Core.Bool.{Bool, true, false, _&&_, _||_, not}
+use mathlib.Core.Bool.{Bool, true, false, _&&_, not}
 use mathlib.Core.List.{List, [], _∷_}
 use lib.ListN.{length}
 use lib.Dec.{eqb, ltb}
@@ -13,7 +13,7 @@ use Rattle.meaning.specs.Formula.{var, odd, opposite, existential}
 use Rattle.meaning.specs.WellFormed.{ascends}
 use Rattle.rules.specs.Simplify.{strengthens}
 use Rattle.search.specs.Candidates.{someStrengthens}
-use Rattle.meaning.proofs.Basics.{by-cases, false-of, clash, and-l, and-r, and-i, eqb-self, eqb-eq, eqb-ne, eqb-true, eqb-false, or-false}
+use Rattle.meaning.proofs.Basics.{by-cases, false-of, and-l, and-r, and-i, eqb-self, eqb-ne, eqb-true, eqb-false, or-false}
 use Rattle.meaning.proofs.Lists.{all-le, all-agree, any-agree, all-has, all-keep-le, keep-all}
 use Rattle.meaning.proofs.Literals.{var-opp, odd-is, even-is, opp-odd, opp-even}
 use Rattle.meaning.proofs.Ascends.{opp-differs}

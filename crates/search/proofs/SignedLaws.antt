@@ -3,11 +3,11 @@
 use Prim.Native.Nat.{ℕ, _<_}
 use mathlib.Core.Path.{_≡_, refl, sym, ap, _∙_}
 use mathlib.Core.Bool.{Bool, true, false, _||_, not}
-use mathlib.Core.List.{List, []}
+use mathlib.Core.List.{List}
 use lib.ListN.{length, getD}
 use lib.Dec.{eqb}
 use borrow.Author.Tests.{ltb-true}
-use Rattle.meaning.specs.Lists.{allOf, keepIf, has, partOf, without}
+use Rattle.meaning.specs.Lists.{keepIf, has, partOf, without}
 use Rattle.meaning.specs.Formula.{Formula, var, opposite, isVar, mentions}
 use Rattle.rules.specs.Simplify.{clauseAt, isClause, subsumePermitted, strengthenPermitted, strengthenLit}
 use Rattle.index.specs.Signs.{signatureOf, variablesIn}

@@ -10,9 +10,9 @@ use borrow.Author.Tests.{ltb-true}
 use native.Mathlib.Omega.{arith}
 use Rattle.meaning.specs.Lists.{anyOf, has, upFrom}
 use Rattle.meaning.specs.Formula.{Formula, var, odd, opposite, isVar, mentions}
-use Rattle.meaning.specs.WellFormed.{ascends, wellFormed}
+use Rattle.meaning.specs.WellFormed.{wellFormed}
 use Rattle.rules.specs.Entry.{strengthen, usesB}
-use Rattle.rules.specs.Simplify.{clauseAt, isClause, strengthens, strengthenPermitted, strengthenLit}
+use Rattle.rules.specs.Simplify.{clauseAt, isClause, strengthenPermitted, strengthenLit}
 use Rattle.rules.specs.Step.{permitted}
 use Rattle.rules.specs.Choice.{indices, seconds}
 use Rattle.table.specs.Table.{Holds}
