@@ -16,10 +16,10 @@ use Rattle.table.specs.declared.Counts.{Counts}
 use Rattle.table.proofs.HoldLaws.{prefix-is, held, bounds}
 use Rattle.permits.proofs.PlaceLaws.{entries-of}
 use Rattle.index.specs.Study.{Studied, Study}
-use Rattle.index.specs.Build.{HeldWell}
+use Rattle.index.specs.Build.{HeldWell, tallyOf, Tallies}
 use Rattle.weigh.specs.Weights.{NoneSubsumed}
 use Rattle.choice.specs.Chosen as choice
-use Rattle.choice.specs.Chosen.{Busy, Apart, Ranks}
+use Rattle.choice.specs.Chosen.{Unsettled, Busy, Apart, Ranks}
 
 module _ {t : List ℕ} {c : Counts} {ranks index : List ℕ} where
   pub busy-study : Busy t c ranks index → Study t c ranks index
@@ -42,6 +42,13 @@ module _ {φ : Formula} {t : List ℕ} {c : Counts} (h : Holds φ t c) (w : well
   pub ranked-is : {r : Bool} {ranks : List ℕ} → Ranked (take (c .variables) t) r ranks → ranks ≡ ranksOf (φ .prefix)
   ranked-is {r} {ranks} k =
       let good : r ≡ true = k .answer ∙ ap goodEntries (prefix-is h) ∙ entries-of φ w (h .fitting) in k .table good ∙ ap ranksOf (prefix-is h)
+
+pub unsettled-well : {t : List ℕ} {c : Counts} → Unsettled t c → HeldWell t c
+unsettled-well u = record { formula = u .formula; holds = u .holds; well = u .well }
+
+-- the tally of the formula
+pub tally-of : {φ : Formula} {t tally : List ℕ} {c : Counts} → Holds φ t c → wellFormed φ ≡ true → tally ≡ tallyOf (φ .clauses) → Tallies φ tally
+tally-of h w e = record { well = w; fitting = h .fitting; counts = e }
 
 pub well-held : {t : List ℕ} {c : Counts} → HeldWell t c → Held t c
 well-held k = held (k .holds)

@@ -95,7 +95,14 @@ unfoldable pub stuckAs : Bool → Next
 stuckAs room = nextAs (rules.nextOf (stuck room))
 
 -- What is at hand, kind by kind --------------------------------------------------------------------------------
--- for kinds 1 to 3: no clause is empty
+-- for kinds 1 and 2: no clause is empty
+pub record Unsettled (t : List ℕ) (c : Counts) : Type 0 where
+  pub formula : Formula
+  pub holds : Holds formula t c
+  pub well : wellFormed formula ≡ true
+  pub no-empty : emptyClause (formula .clauses) ≡ false
+
+-- for kind 3 the same, with the index
 pub record Busy (t : List ℕ) (c : Counts) (ranks index : List ℕ) : Type 0 where
   pub formula : Formula
   pub studied : Studied formula t c ranks index

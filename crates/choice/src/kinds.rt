@@ -12,13 +12,14 @@ ghost use Rattle.table.specs.Table.{tableOf, emptyFormula, Holds};
 ghost use Rattle.index.specs.Study.{Studied};
 ghost use Rattle.index.specs.Build.{HeldWell};
 ghost use Rattle.weigh.specs.Weights.{NoneSubsumed};
-ghost use Rattle.choice.specs.Chosen.{nextAs, anyOfKind, chosenFrom, stuckAs, Busy, Apart, Ranks, Ranked};
+ghost use Rattle.choice.specs.Chosen.{nextAs, anyOfKind, chosenFrom, stuckAs, Unsettled, Busy, Apart, Ranks, Ranked};
 use crate::Best;
 use crate::End;
 use crate::Next;
 use crate::lightest::best_expand;
 use crate::lightest::best_resolve;
 use index::build_index;
+use index::put_tally;
 use permits::entry_of;
 use search::Found;
 use search::find_equality;
@@ -94,27 +95,41 @@ fn choose_subsume(t: &[u16], c: Counts, ranks: &[u16], index: &[u16], allowance:
     }
 }
 
-fn choose_pure(t: &[u16], c: Counts, ranks: &[u16], index: &[u16], allowance: usize) -> Next
-    requires { ⌜ Busy (now t) c (now ranks) (now index) × (allowance ≤ 1000) ⌝ }
-    ensures { λ r. ⌜ ((φ : Formula) → Studied φ (now (t .entry)) c (now (ranks .entry)) (now (index .entry)) → emptyClause (φ .clauses) ≡ false → r ≡ chosenFrom allowance φ pure) ⌝ }
+// From kind 3 on: the index goes into the spare table.
+fn choose_indexed(t: &[u16], c: Counts, spare: &mut [u16], allowance: usize) -> Next
+    requires { ⌜ Unsettled (now t) c × (length (now spare) ≡ 11261) × (allowance ≤ 1000) ⌝ }
+    ensures { λ r. ⌜ ((φ : Formula) → Holds φ (now (t .entry)) c → wellFormed φ ≡ true → emptyClause (φ .clauses) ≡ false → r ≡ chosenFrom allowance φ subsume) ⌝ }
 {
-    match find_pure(t, c, index) {
+    let n = c.variables;
+    let mut ranks = [0u16; 1024];
+    rank_prefix(&t[..n], &mut ranks);
+    build_index(t, c, spare);
+    choose_subsume(t, c, &ranks, spare, allowance)
+}
+
+// Kind 2 needs no more than how often each literal stands in the clauses, so the index waits.
+fn choose_pure(t: &[u16], c: Counts, spare: &mut [u16], allowance: usize) -> Next
+    requires { ⌜ Unsettled (now t) c × (length (now spare) ≡ 11261) × (allowance ≤ 1000) ⌝ }
+    ensures { λ r. ⌜ ((φ : Formula) → Holds φ (now (t .entry)) c → wellFormed φ ≡ true → emptyClause (φ .clauses) ≡ false → r ≡ chosenFrom allowance φ pure) ⌝ }
+{
+    put_tally(t, c, spare);
+    match find_pure(t, c, spare) {
         Found::Pair(a, b) => Next::Step(entry_of(2, a, b)),
-        Found::Nothing => choose_subsume(t, c, ranks, index, allowance),
+        Found::Nothing => choose_indexed(t, c, spare, allowance),
     }
 }
 
-fn choose_unit(t: &[u16], c: Counts, ranks: &[u16], index: &[u16], allowance: usize) -> Next
-    requires { ⌜ Busy (now t) c (now ranks) (now index) × (allowance ≤ 1000) ⌝ }
-    ensures { λ r. ⌜ ((φ : Formula) → Studied φ (now (t .entry)) c (now (ranks .entry)) (now (index .entry)) → emptyClause (φ .clauses) ≡ false → r ≡ chosenFrom allowance φ unit) ⌝ }
+fn choose_unit(t: &[u16], c: Counts, spare: &mut [u16], allowance: usize) -> Next
+    requires { ⌜ Unsettled (now t) c × (length (now spare) ≡ 11261) × (allowance ≤ 1000) ⌝ }
+    ensures { λ r. ⌜ ((φ : Formula) → Holds φ (now (t .entry)) c → wellFormed φ ≡ true → emptyClause (φ .clauses) ≡ false → r ≡ chosenFrom allowance φ unit) ⌝ }
 {
     match find_unit(t, c) {
         Found::Pair(a, b) => Next::Step(entry_of(1, a, b)),
-        Found::Nothing => choose_pure(t, c, ranks, index, allowance),
+        Found::Nothing => choose_pure(t, c, spare, allowance),
     }
 }
 
-// "An empty clause, FALSE; no clause, TRUE; else": the index goes into the spare table.
+// "An empty clause, FALSE; no clause, TRUE; else" by the kinds.
 fn decide(t: &[u16], c: Counts, spare: &mut [u16], allowance: usize) -> Next
     requires { ⌜ HeldWell (now t) c × (length (now spare) ≡ 11261) × (allowance ≤ 1000) ⌝ }
     ensures { λ r. ⌜ ((φ : Formula) → Holds φ (now (t .entry)) c → wellFormed φ ≡ true → r ≡ nextAs (rules.next allowance φ)) ⌝ }
@@ -125,11 +140,7 @@ fn decide(t: &[u16], c: Counts, spare: &mut [u16], allowance: usize) -> Next
     if c.clauses == 0 {
         return Next::Over(End::True);
     }
-    let n = c.variables;
-    let mut ranks = [0u16; 1024];
-    rank_prefix(&t[..n], &mut ranks);
-    build_index(t, c, spare);
-    choose_unit(t, c, &ranks, spare, allowance)
+    choose_unit(t, c, spare, allowance)
 }
 
 // What the run does next. The spare table ends zero, whatever it held.

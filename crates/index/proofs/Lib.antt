@@ -8,3 +8,4 @@ pub mod StartLaws
 pub mod PutLaws
 pub mod PartlyLaws
 pub mod FillLaws
+pub mod TallyLaws

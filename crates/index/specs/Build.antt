@@ -8,8 +8,8 @@ use lib.Dec.{eqb, ltb}
 use lib.ListN.{length, getD, take, drop, set, replicate}
 use Rattle.meaning.specs.Lists.{allOf, keepIf}
 use Rattle.meaning.specs.Formula.{Formula}
-use Rattle.meaning.specs.WellFormed.{ascends, wellFormed, literals, maxLiterals}
-use Rattle.table.specs.Table.{Holds}
+use Rattle.meaning.specs.WellFormed.{ascends, wellFormed, fits, literals, maxLiterals}
+use Rattle.table.specs.Table.{allLiterals, Holds}
 use Rattle.table.specs.Ranks.{small}
 use Rattle.table.specs.declared.Counts.{Counts}
 use Rattle.index.specs.Index.{clausesWith, listStart, numbersAt, numbersRoom, placed}
@@ -34,6 +34,19 @@ countsIn c = placed (times c) (replicate numbersRoom 0)
 
 unfoldable pub startsIn : List ℕ → List ℕ
 startsIn c = placed (lower c) (replicate numbersRoom 0)
+
+-- How often each literal stands in the clauses: the tally of a formula; of some formula ---------------------------
+unfoldable pub tallyOf : List (List ℕ) → List ℕ
+tallyOf cs = countsIn (allLiterals cs)
+
+pub record Tallies (φ : Formula) (tally : List ℕ) : Type 0 where
+  pub well : wellFormed φ ≡ true
+  pub fitting : fits φ ≡ true
+  pub counts : tally ≡ tallyOf (φ .clauses)
+
+pub record Tallied (tally : List ℕ) : Type 0 where
+  pub formula : Formula
+  pub tallies : Tallies formula tally
 
 -- The numbers ------------------------------------------------------------------------------------------------
 -- the number i at the end of the list of l, whose place then tells the new end

@@ -3,6 +3,7 @@ mod fill;
 mod lists;
 mod signs;
 mod starts;
+mod tallies;
 
 pub use fill::build_index;
 pub use lists::clauses_of;
@@ -10,3 +11,5 @@ pub use lists::clauses_with;
 pub use signs::may_be_part;
 pub use signs::signature;
 pub use signs::signatures;
+pub use tallies::put_tally;
+pub use tallies::times_in;

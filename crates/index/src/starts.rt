@@ -10,7 +10,7 @@ use crate::lists::NUMBERS_AT;
 use table::zero;
 
 // How often each literal stands among these, whatever the index held.
-fn count_literals(literals: &[u16], index: &mut [u16])
+pub fn count_literals(literals: &[u16], index: &mut [u16])
     requires { ⌜ (length (now index) ≡ 11261) × (length (now literals) ≤ 8191) × (allOf small (now literals) ≡ true) ⌝ }
     ensures { λ _. ⌜ now (index .exit) ≡ countsIn (now (literals .entry)) ⌝ }
 {

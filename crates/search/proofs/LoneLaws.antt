@@ -17,19 +17,19 @@ use Rattle.table.proofs.HoldLaws.{count-variables}
 use Rattle.index.proofs.ClauseLaws.{with-some}
 use Rattle.search.proofs.PrefixLaws.{entry-at, any-at}
 
--- s and u are the clauses with the plain and with the negated literal
-module _ (cs : List (List ℕ)) (v : ℕ) (s : List ℕ) (is-s : s ≡ clausesWith cs (2 * v)) where
-  plain-is : occurs (plain v) cs ≡ not (eqb (length s) 0)
+-- m and n clauses have the plain and the negated literal
+module _ (cs : List (List ℕ)) (v m : ℕ) (is-m : m ≡ length (clausesWith cs (2 * v))) where
+  plain-is : occurs (plain v) cs ≡ not (eqb m 0)
   unfolding occurs plain
-  plain-is = with-some cs (2 * v) ∙ ap (λ (l : List ℕ). not (eqb (length l) 0)) (sym is-s)
+  plain-is = with-some cs (2 * v) ∙ ap (λ (k : ℕ). not (eqb k 0)) (sym is-m)
 
-  pub lone-plain : length s ≡ 0 → true ≡ not (occurs (plain v) cs && occurs (negated v) cs)
+  pub lone-plain : m ≡ 0 → true ≡ not (occurs (plain v) cs && occurs (negated v) cs)
   lone-plain e = rw (plain-is, eqb-eq e)
 
-  pub lone-negated : (length s ≡ 0 → ⊥) → (u : List ℕ) → u ≡ clausesWith cs (2 * v + 1)
-      → eqb (length u) 0 ≡ not (occurs (plain v) cs && occurs (negated v) cs)
+  pub lone-negated : (m ≡ 0 → ⊥) → (n : ℕ) → n ≡ length (clausesWith cs (2 * v + 1))
+      → eqb n 0 ≡ not (occurs (plain v) cs && occurs (negated v) cs)
   unfolding occurs negated
-  lone-negated e u is-u = rw (plain-is, eqb-ne (length s) 0 e, with-some cs (2 * v + 1), ← is-u) (twice (eqb (length u) 0))
+  lone-negated e n is-n = rw (plain-is, eqb-ne m 0 e, with-some cs (2 * v + 1), ← is-n) (twice (eqb n 0))
     where
       twice : (b : Bool) → b ≡ not (not b)
       twice true = refl

@@ -1,19 +1,24 @@
--- By the candidate of kind 2; without one, by the kinds after it.
+-- By the candidate of kind 2, from the tally; without one, by the kinds after it.
 -- Assumes nothing.
 use mathlib.Core.Path.{refl}
 use native.Mathlib.Omega.{arith}
 use Rattle.rules.specs.Entry.{pure, code}
-use Rattle.index.proofs.ReadLaws.{studied-indexes, study-indexed}
-use Rattle.search.proofs.StudyLaws.{study-held}
+use Rattle.table.proofs.HoldLaws.{held}
 use Rattle.choice.specs.Chosen.{kindsAfter, chosenFrom}
-use Rattle.choice.proofs.HandLaws.{busy-study}
+use Rattle.choice.proofs.HandLaws.{unsettled-well, tally-of}
 use Rattle.choice.proofs.KindLaws.{pair-small, pair-next, nothing-next}
 use borrow.Author.Needs.{needs}
 use Rattle.choice.proofs.kinds.choose_pure.Statement.{statement}
 use Rattle.choice.proofs.kinds.choose_pure.Tie as tie
 
+put-tally-requires : tie.Need-put-tally-requires
+put-tally-requires c κs = let p = c .before .before .before .pre in (unsettled-well (p .0), p .1)
+
 find-pure-requires : tie.Need-find-pure-requires
-find-pure-requires c κs = let s = busy-study (c .before .before .before .pre .0) in (study-held s, study-indexed s)
+find-pure-requires c κs =
+    let k = c .before .before .before in
+    let p = k .before .before .before .before .pre .0 in
+    (held (p .holds), record { formula = p .formula; tallies = tally-of (p .holds) (p .well) (k .put-tally .ensures (p .formula) (p .holds) (p .well)) })
 
 enum-known-a : tie.Need-enum-known-a
 enum-known-a c = search needs
@@ -21,31 +26,49 @@ enum-known-a c = search needs
 entry-of-requires : tie.Need-entry-of-requires
 entry-of-requires c κs =
     let f = c .before .before .before in
-    let p = f .before .before .before .before .pre .0 in
-    let q = pair-small 0 (p .formula) pure _ (f .find-pure .ensures (p .formula) 0 ((p .studied) .holds) (studied-indexes (p .studied))) (p .studied .holds .fitting) _ _ (c .before .a .given .1) in (omega arith, q .0, q .1)
+    let k = f .before .before .before .before in
+    let p = k .before .before .before .before .pre .0 in
+    let i = f .find-pure .ensures (p .formula) 0 (p .holds) (tally-of (p .holds) (p .well) (k .put-tally .ensures (p .formula) (p .holds) (p .well))) in
+    let q = pair-small 0 (p .formula) pure _ i (p .holds .fitting) _ _ (c .before .a .given .1) in (omega arith, q .0, q .1)
 
 enum-told : tie.Need-enum-told
 enum-told c = search needs
 
-choose-subsume-requires : tie.Need-choose-subsume-requires
-choose-subsume-requires c κs = search needs
+choose-indexed-requires : tie.Need-choose-indexed-requires
+choose-indexed-requires c κs = search needs
+
+same-length : tie.Need-same-length
+same-length c = search needs
 
 returns : tie.Need-returns
 unfolding code
-returns c = let f = c .before .before .before .before in λ φ s n. pair-next _ φ pure _ (f .find-pure .ensures φ _ (s .holds) (studied-indexes s)) _ _ (c .before .before .a .given .1) _ (c .entry-of .ensures pure refl)
+returns c =
+    let f = c .before .before .before .before in
+    let k = f .before .before .before .before in
+    λ φ h w n. pair-next _ φ pure _ (f .find-pure .ensures φ _ h (tally-of h w (k .put-tally .ensures φ h w))) _ _ (c .before .before .a .given .1) _ (c .entry-of .ensures pure refl)
+
+same-length-2 : tie.Need-same-length-2
+same-length-2 c = search needs
 
 returns-2 : tie.Need-returns-2
 unfolding chosenFrom kindsAfter
-returns-2 c = let f = c .before .before .before in λ φ s n. let i = f .find-pure .ensures φ _ (s .holds) (studied-indexes s) in nothing-next _ φ pure _ i (c .before .enum-told .given .1) _ (c .choose-subsume .ensures φ s n)
+returns-2 c =
+    let u = c .before .before in
+    let f = u .before .before .before .before in
+    let k = f .before .before .before .before in
+    λ φ h w n. let i = f .find-pure .ensures φ _ h (tally-of h w (k .put-tally .ensures φ h w)) in nothing-next _ φ pure _ i (u .before .before .enum-told .given .1) _ (u .choose-indexed .ensures φ h w n)
 
 pub choose-pure-spec : {M : Type 1} → statement M
 choose-pure-spec =
     tie.close
     (tie.spec
+    put-tally-requires
     find-pure-requires
     enum-known-a
     entry-of-requires
     enum-told
-    choose-subsume-requires
+    choose-indexed-requires
+    same-length
     returns
+    same-length-2
     returns-2)

@@ -10,7 +10,7 @@ use Rattle.table.specs.Table.{Holds}
 use Rattle.rules.specs.Entry.{pure, usesB}
 use Rattle.rules.specs.Step.{permitted}
 use Rattle.rules.specs.Choice.{costly, firsts, candidate}
-use Rattle.index.specs.Index.{Indexes}
+use Rattle.index.specs.Build.{Tallies}
 use Rattle.search.specs.declared.Found.the-variants.{Nothing, Pair}
 use Rattle.table.proofs.HoldLaws.{bounds}
 use Rattle.search.proofs.CandidateLaws.{candidateFrom, from-start, only-none, only-found, by-variable, walk-next, walk-found, walk-end}
@@ -19,11 +19,11 @@ use Rattle.search.proofs.pures.find_pure.Statement.{statement}
 use Rattle.search.proofs.pures.find_pure.Tie as tie
 
 abbrev Inv-loop : tie.InvT-loop
-Inv-loop t c index i₀ i =
-    (i ≤ c .variables) × ((φ : Formula) (E : ℕ) → Holds φ t c → Indexes φ index → candidate E φ pure ≡ candidateFrom φ pure i)
+Inv-loop t c tally i₀ i =
+    (i ≤ c .variables) × ((φ : Formula) (E : ℕ) → Holds φ t c → Tallies φ tally → candidate E φ pure ≡ candidateFrom φ pure i)
 
 abbrev μ-loop : tie.MeasureT-loop
-μ-loop t c index i₀ i = c .variables - i
+μ-loop t c tally i₀ i = c .variables - i
 
 loop-holds : tie.Need-loop-holds Inv-loop μ-loop
 unfolding costly
