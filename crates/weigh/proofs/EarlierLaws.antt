@@ -201,6 +201,22 @@ module _ (φ : Formula) (a : ℕ) (c z : List ℕ) where
       → false ≡ partnered φ a c turned b z
   partner-out turned b o e t is n = partner-none turned b (rw (← e) (sym is ∙ n))
 
+-- nor with a clause that has a literal too many
+neither : (p q : Bool) → (p && (q && false)) ≡ false
+neither true true = refl
+neither true false = refl
+neither false q = refl
+
+other-none : (φ : Formula) (a : ℕ) (c z y : List ℕ) (turned : Bool) → fitsIn (φ .prefix) c (otherOf a turned) y ≡ false
+    → makesWith φ a c turned z y ≡ false
+unfolding makesWith makes otherOf
+other-none φ a c z y true n = rw (not-fits (φ .prefix) y z c a n) (neither (has (plain a) y) (has (negated a) z))
+other-none φ a c z y false n = rw (not-fits-negative (φ .prefix) z y c a n) (neither (has (plain a) z) (has (negated a) y))
+
+pub other-out : (φ : Formula) (a : ℕ) (c z y : List ℕ) (turned : Bool) (o : ℕ) → o ≡ otherOf a turned → (t : Bool)
+    → t ≡ fitsIn (φ .prefix) c o y → t ≡ false → (d : List ℕ) → y ≡ d → false ≡ makesWith φ a c turned z d
+other-out φ a c z y turned o e t is n d q = sym (rw (← q) (other-none φ a c z y turned (rw (← e) (sym is ∙ n))))
+
 pub partner-same : (φ : Formula) (a : ℕ) (c : List ℕ) (turned : Bool) (b : ℕ) (z d : List ℕ) → z ≡ d → (r : Bool) → r ≡ partnered φ a c turned b z
     → r ≡ partnered φ a c turned b d
 partner-same φ a c turned b z d e r q = q ∙ ap (partnered φ a c turned b) e

@@ -20,6 +20,28 @@ use table::Counts;
 use table::clause_at;
 use table::contains;
 
+// The literal of the variable that the positive clause has; turned, the negative one.
+fn own_literal(a: usize, turned: bool) -> u16
+    requires { ⌜ a < 1024 ⌝ }
+    ensures { λ r. ⌜ r ≡ ownOf a turned ⌝ }
+{
+    if turned {
+        return 2 * a as u16 + 1;
+    }
+    2 * a as u16
+}
+
+// And the other one.
+fn other_literal(a: usize, turned: bool) -> u16
+    requires { ⌜ a < 1024 ⌝ }
+    ensures { λ r. ⌜ r ≡ otherOf a turned ⌝ }
+{
+    if turned {
+        return 2 * a as u16;
+    }
+    2 * a as u16 + 1
+}
+
 // Whether the clause is the resolvent of x, if that has the variable, and of y, if that has its opposite.
 fn is_made(
     t: &[u16],
@@ -46,7 +68,7 @@ fn is_made(
     false
 }
 
-// The same of z and clause j, if that is one of the first b. Turned, z is the negative one.
+// The same of z and clause j, if that is one of the first b. Turned, z is the negative one. Mostly clause j has a literal that the clause lacks.
 fn is_made_with(
     t: &[u16],
     c: Counts,
@@ -68,10 +90,13 @@ fn is_made_with(
         return false;
     }
     let y = clause_at(t, c, j);
-    if turned {
-        return is_made(t, c, ranks, index, again, a, y, z, clause);
+    if fits_in(y, other_literal(a, turned), ranks, clause) {
+        if turned {
+            return is_made(t, c, ranks, index, again, a, y, z, clause);
+        }
+        return is_made(t, c, ranks, index, again, a, z, y, clause);
     }
-    is_made(t, c, ranks, index, again, a, z, y, clause)
+    false
 }
 
 // So of z and one of the first b clauses, of which only those with the literal are looked at.
@@ -104,28 +129,6 @@ fn any_made_with(
     false
 }
 
-// The literal of the variable that the positive clause has; turned, the negative one.
-fn own_literal(a: usize, turned: bool) -> u16
-    requires { ⌜ a < 1024 ⌝ }
-    ensures { λ r. ⌜ r ≡ ownOf a turned ⌝ }
-{
-    if turned {
-        return 2 * a as u16 + 1;
-    }
-    2 * a as u16
-}
-
-// And the other one.
-fn other_literal(a: usize, turned: bool) -> u16
-    requires { ⌜ a < 1024 ⌝ }
-    ensures { λ r. ⌜ r ≡ otherOf a turned ⌝ }
-{
-    if turned {
-        return 2 * a as u16;
-    }
-    2 * a as u16 + 1
-}
-
 // The first literal of the clause that z lacks; `other`, if there is none.
 fn lacking(clause: &[u16], z: &[u16], other: u16) -> u16
     ensures { λ r. ⌜ r ≡ lackingOf (now (z .entry)) other (now (clause .entry)) ⌝ }
@@ -141,7 +144,7 @@ fn lacking(clause: &[u16], z: &[u16], other: u16) -> u16
     other
 }
 
-// Whether one of the first b clauses makes the clause with z, which mostly has a literal that the clause lacks.
+// Whether one of the first b clauses makes the clause with z.
 fn has_partner(
     t: &[u16],
     c: Counts,
@@ -158,14 +161,11 @@ fn has_partner(
     requires { ⌜ (length (now again) ≡ 1023) × (a < 1024) × Ordered (now z) ⌝ }
     ensures { λ r. ⌜ ((φ : Formula) → Studied φ (now (t .entry)) c (now (ranks .entry)) (now (index .entry)) → r ≡ partnered φ a (now (clause .entry)) turned b (now (z .entry))) ⌝ }
 {
-    if fits_in(z, own_literal(a, turned), ranks, clause) {
-        let literal = lacking(clause, z, other_literal(a, turned));
-        return any_made_with(t, c, ranks, index, again, a, turned, z, literal, b, clause);
-    }
-    false
+    let literal = lacking(clause, z, other_literal(a, turned));
+    any_made_with(t, c, ranks, index, again, a, turned, z, literal, b, clause)
 }
 
-// The same of clause j, if that is one of the first d.
+// The same of clause j, if that is one of the first d. Mostly it has a literal that the clause lacks.
 fn is_partnered(
     t: &[u16],
     c: Counts,
@@ -187,7 +187,10 @@ fn is_partnered(
         return false;
     }
     let z = clause_at(t, c, j);
-    has_partner(t, c, ranks, index, again, a, turned, z, b, clause)
+    if fits_in(z, own_literal(a, turned), ranks, clause) {
+        return has_partner(t, c, ranks, index, again, a, turned, z, b, clause);
+    }
+    false
 }
 
 // So of one of the first d clauses with the literal.

@@ -179,7 +179,8 @@ fn came_before(
         }
         i += 1;
     }
-    row_gives(t, c, ranks, index, again, a, last, p.column, clause)
+    let x = clause_with(t, c, index, 2 * a as u16, last);
+    any_gives(t, c, ranks, index, again, a, x, p.column, clause)
 }
 
 // The same. After many positive clauses the index tells where to look; each is tried only where there are few, or the clause has no literal to

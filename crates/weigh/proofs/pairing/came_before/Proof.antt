@@ -8,8 +8,8 @@ use Rattle.meaning.specs.Formula.{Formula, plain, negated}
 use Rattle.index.specs.Study.{Studied}
 use Rattle.index.proofs.ReadLaws.{studied-indexes, study-indexed}
 use Rattle.weigh.specs.Resolving.{cameBefore}
-use Rattle.weigh.proofs.ResolvFile.{listed-few, pair-whole, positive-there, negative-there}
-use Rattle.weigh.proofs.ResolvRows.{rowsFrom, rows-start, rows-found, rows-turn, rows-end}
+use Rattle.weigh.proofs.ResolvFile.{filed-of, file-of, side-ordered, listed-few, pair-whole, positive-there, negative-there}
+use Rattle.weigh.proofs.ResolvRows.{rowsFrom, rows-start, rows-found, rows-turn, rows-end, row-some}
 use borrow.Author.Needs.{needs}
 use Rattle.weigh.proofs.pairing.came_before.Statement.{statement}
 use Rattle.weigh.proofs.pairing.came_before.Tie as tie
@@ -92,33 +92,49 @@ loop-again c =
           (l .loop .inv .2 φ d) (g .before .before .loop-test .taken) _ (g .row-gives .ensures φ d) (c .if1 .left),
     )
 
-row-gives-requires-2 : tie.Need-row-gives-requires-2 Inv-loop μ-loop
-unfolding plain negated
-row-gives-requires-2 c κs =
-    let l = c .before .before in
-    let n = l .before in
-    let s = n .before .before .before .before .before .before in (
-      s .pre .0,
+cast-clause-with : tie.Need-cast-clause-with Inv-loop μ-loop
+cast-clause-with c = search needs
+
+mul-clause-with : tie.Need-mul-clause-with Inv-loop μ-loop
+mul-clause-with c = search needs
+
+clause-with-requires : tie.Need-clause-with-requires Inv-loop μ-loop
+clause-with-requires c κs =
+    let s = c .before .before .before .before .before .before .before .before in
+    (file-of (s .pre .0), λ φ h. positive-there φ (s .args .a) (s .args .p) (s .pre .1 .2 φ h))
+
+any-gives-requires : tie.Need-any-gives-requires Inv-loop μ-loop
+unfolding negated
+any-gives-requires c κs =
+    let x = c .before in
+    let l = x .before .before in
+    let s = l .before .before .before .before .before .before .before in
+    let g = s .pre .0 in
+    let f = filed-of (g .studied) in (
+      g,
       (
-        (l .loop .inv .1 ∙ s .pre .1 .0, s .pre .1 .1),
-        λ φ h. let e = n .count-with .ensures φ h in let k = s .pre .1 .2 φ h in
-            (positive-there φ (s .args .a) (s .args .p) k, omega (arith, negative-there φ (s .args .a) (s .args .p) k)),
+        (l .loop .inv .1 ∙ s .pre .1 .0, s .pre .1 .1, rw (x .clause-with .ensures (g .formula) f) (side-ordered f _ (s .args .p .row))),
+        λ φ h. omega (arith, negative-there φ (s .args .a) (s .args .p) (s .pre .1 .2 φ h)),
       ),
     )
 
 same-length-2 : tie.Need-same-length-2 Inv-loop μ-loop
-same-length-2 c = let g = c .before .before in g .row-gives2 .kept .1 .1 .1 .1 .0 ∙ g .before .before .before .loop .inv .1
+same-length-2 c = let g = c .before .before in g .any-gives .kept .1 .1 .1 .1 .0 ∙ g .before .before .before .before .loop .inv .1
 
 returns-2 : tie.Need-returns-2 Inv-loop μ-loop
+unfolding plain negated
 returns-2 c =
     let g = c .before .before in
-    let a = g .before .before in
+    let x = g .before .before in
+    let a = x .before in
     let l = a .before in
     let n = l .before in
     let s = n .before .before .before .before .before .before in
-    λ φ d. let x = studied-indexes d in let e = n .count-with .ensures φ x in
-    rows-end φ (s .args .a) (s .args .p .number) _ (s .args .p .row) (s .args .p .column) e (pair-whole φ (s .args .a) (s .args .p) (s .pre .1 .2 φ x) _ e) _ (l .loop .i) (l .loop .inv .2 φ d)
-    (omega (arith, l .loop .inv .0, a .loop-test .left)) _ (g .row-gives2 .ensures φ d)
+    λ φ d. let h = studied-indexes d in let e = n .count-with .ensures φ h in let k = s .pre .1 .2 φ h in
+    rows-end φ (s .args .a) (s .args .p .number) _ (s .args .p .row) (s .args .p .column) e (pair-whole φ (s .args .a) (s .args .p) k _ e) _ (l .loop .i)
+    (l .loop .inv .2 φ d) (omega (arith, l .loop .inv .0, a .loop-test .left)) _
+    (row-some φ (d .well) (s .args .a) (s .args .p .row) (s .args .p .column) (positive-there φ (s .args .a) (s .args .p) k)
+    (omega (arith, negative-there φ (s .args .a) (s .args .p) k)) _ _ (x .clause-with .ensures φ (filed-of d)) _ (g .any-gives .ensures φ d))
 
 pub came-before-spec : {M : Type 1} → statement M
 came-before-spec =
@@ -137,6 +153,9 @@ came-before-spec =
     add-i
     loop-less
     loop-again
-    row-gives-requires-2
+    cast-clause-with
+    mul-clause-with
+    clause-with-requires
+    any-gives-requires
     same-length-2
     returns-2)
