@@ -128,7 +128,13 @@ fn add_each(
             filter,
         ) {
             Pushed::Done(next) => {
-                e = next;
+                // Field by field: taken over whole, the record would be read before all of it is written, and the loop would wait.
+                e = Counts {
+                    variables: next.variables,
+                    clauses: next.clauses,
+                    literals: next.literals,
+                    second: next.second,
+                };
             }
             Pushed::Full => {
                 return Pushed::Full;

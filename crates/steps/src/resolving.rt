@@ -87,7 +87,13 @@ fn add_pairs(
             ranks,
         ) {
             Pushed::Done(next) => {
-                e = next;
+                // Field by field: taken over whole, the record would be read before all of it is written, and the loop would wait.
+                e = Counts {
+                    variables: next.variables,
+                    clauses: next.clauses,
+                    literals: next.literals,
+                    second: next.second,
+                };
             }
             Pushed::Full => {
                 return Pushed::Full;
@@ -154,7 +160,12 @@ fn add_resolvents(
             ranks,
         ) {
             Pushed::Done(next) => {
-                e = next;
+                e = Counts {
+                    variables: next.variables,
+                    clauses: next.clauses,
+                    literals: next.literals,
+                    second: next.second,
+                };
             }
             Pushed::Full => {
                 return Pushed::Full;
