@@ -93,7 +93,14 @@ fn count_pairs(
         if below <= weight_of(e) {
             return e;
         }
-        e = add_pair(t, c, ranks, index, scratch, again, a, p, e);
+        let f = add_pair(t, c, ranks, index, scratch, again, a, p, e);
+        // Field by field, as the loops of `steps` do: the record whole would make the loop wait.
+        e = Counts {
+            variables: f.variables,
+            clauses: f.clauses,
+            literals: f.literals,
+            second: f.second,
+        };
         p = next_pair(p, width);
     }
     e
