@@ -18,6 +18,9 @@ use table::contains;
 use table::equal;
 use table::reduce_in;
 
+// From this many literals on a resolvent is sooner made than looked for literal by literal.
+const LONG: usize = 16;
+
 // The raw clause is complete: it is tidied in the scratch, by the ranks of the prefix.
 fn tidy_in(scratch: &mut [u16], p: Pending, ranks: &[u16]) -> Pending
     requires { ⌜ Pended (now scratch) p ⌝ }
@@ -102,7 +105,28 @@ pub fn fits_in(x: &[u16], out: u16, ranks: &[u16], clause: &[u16]) -> bool
     true
 }
 
-// Whether the resolvent of x and y is the clause.
+// Whether the resolvent of x and y, when it is made, is the clause.
+fn merges_to(
+    scratch: &mut [u16],
+    x: &[u16],
+    y: &[u16],
+    a: usize,
+    ranks: &[u16],
+    clause: &[u16],
+) -> bool
+    requires { ⌜ (length (now scratch) ≡ 1023) × (a < 1024) × (length (now ranks) ≡ 1024) ⌝ }
+    requires { ⌜ Ordered (now x) × Ordered (now y) ⌝ }
+    ensures { λ r. ⌜ ((q : List ℕ) → goodPrefix q ≡ true → now (ranks .entry) ≡ ranksOf q → r ≡ becomes (now (clause .entry)) (tidy q (resolvent a (now (x .entry)) (now (y .entry))))) ⌝ }
+{
+    let p = resolve_pair(scratch, x, y, a, ranks);
+    if p.both {
+        return false;
+    }
+    let m = p.size;
+    equal(clause, &scratch[..m])
+}
+
+// The same, where the clause mostly has a literal that neither has.
 fn is_resolvent(
     scratch: &mut [u16],
     x: &[u16],
@@ -116,12 +140,7 @@ fn is_resolvent(
     ensures { λ r. ⌜ ((q : List ℕ) → goodPrefix q ≡ true → now (ranks .entry) ≡ ranksOf q → r ≡ becomes (now (clause .entry)) (tidy q (resolvent a (now (x .entry)) (now (y .entry))))) ⌝ }
 {
     if covered(clause, x, y) {
-        let p = resolve_pair(scratch, x, y, a, ranks);
-        if p.both {
-            return false;
-        }
-        let m = p.size;
-        return equal(clause, &scratch[..m]);
+        return merges_to(scratch, x, y, a, ranks, clause);
     }
     false
 }
@@ -139,6 +158,9 @@ pub fn gives(
     requires { ⌜ Ordered (now x) × Ordered (now y) ⌝ }
     ensures { λ r. ⌜ ((q : List ℕ) → goodEntries q ≡ true → now (ranks .entry) ≡ ranksOf q → r ≡ becomes (now (clause .entry)) (tidy q (resolvent a (now (x .entry)) (now (y .entry))))) ⌝ }
 {
+    if LONG <= clause.len() {
+        return merges_to(scratch, x, y, a, ranks, clause);
+    }
     let out = 2 * a as u16 + 1;
     if fits_in(y, out, ranks, clause) {
         return is_resolvent(scratch, x, y, a, ranks, clause);

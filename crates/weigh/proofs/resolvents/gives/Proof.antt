@@ -1,4 +1,4 @@
--- A clause with a literal too many gives nothing; any other is tried.
+-- For a long clause the resolvent is made at once; else a clause with a literal too many gives nothing, and any other is tried.
 -- Assumes nothing.
 use mathlib.Core.Path.{sym, _∙_}
 use Rattle.meaning.specs.Formula.{negated}
@@ -7,6 +7,15 @@ use Rattle.weigh.proofs.ResolvFits.{not-fits-negative}
 use borrow.Author.Needs.{needs}
 use Rattle.weigh.proofs.resolvents.gives.Statement.{statement}
 use Rattle.weigh.proofs.resolvents.gives.Tie as tie
+
+merges-to-requires : tie.Need-merges-to-requires
+merges-to-requires c κs = search needs
+
+same-length : tie.Need-same-length
+same-length c = search needs
+
+returns : tie.Need-returns
+returns c = λ q g k. c .before .before .merges-to .ensures q (good-entries q g) k
 
 cast-out : tie.Need-cast-out
 cast-out c = search needs
@@ -23,27 +32,30 @@ fits-in-requires c κs = search needs
 is-resolvent-requires : tie.Need-is-resolvent-requires
 is-resolvent-requires c κs = search needs
 
-same-length : tie.Need-same-length
-same-length c = search needs
-
-returns : tie.Need-returns
-returns c = λ q g k. c .before .before .is-resolvent .ensures q (good-entries q g) k
+same-length-2 : tie.Need-same-length-2
+same-length-2 c = search needs
 
 returns-2 : tie.Need-returns-2
+returns-2 c = λ q g k. c .before .before .is-resolvent .ensures q (good-entries q g) k
+
+returns-3 : tie.Need-returns-3
 unfolding negated
-returns-2 c =
-    let s = c .before .before .before .before .before .before .before in
-    λ q g k. sym (not-fits-negative q _ _ _ (s .args .a) (sym (c .before .fits-in .ensures q g k) ∙ c .if1 .left))
+returns-3 c =
+    let s = c .before .before .before .before .before .before .before .before in
+    λ q g k. sym (not-fits-negative q _ _ _ (s .args .a) (sym (c .before .fits-in .ensures q g k) ∙ c .if2 .left))
 
 pub gives-spec : {M : Type 1} → statement M
 gives-spec =
     tie.close
     (tie.spec
+    merges-to-requires
+    same-length
+    returns
     cast-out
     mul-out
     add-out
     fits-in-requires
     is-resolvent-requires
-    same-length
-    returns
-    returns-2)
+    same-length-2
+    returns-2
+    returns-3)

@@ -1,71 +1,32 @@
--- A clause that the two do not cover is not their resolvent; any other is compared with it.
+-- A clause that the two do not cover is not their resolvent; for any other it is made.
 -- Assumes nothing.
 use mathlib.Core.Path.{sym, _∙_}
-use native.Mathlib.Omega.{arith}
-use lib.Seq.{length-take-le}
 use borrow.Author.Needs.{needs}
-use Rattle.weigh.proofs.ResolvPending.{becomes-none, becomes-same, not-covered}
+use Rattle.weigh.proofs.ResolvPending.{not-covered}
 use Rattle.weigh.proofs.resolvents.is_resolvent.Statement.{statement}
 use Rattle.weigh.proofs.resolvents.is_resolvent.Tie as tie
 
 covered-requires : tie.Need-covered-requires
 covered-requires c κs = search needs
 
-resolve-pair-requires : tie.Need-resolve-pair-requires
-resolve-pair-requires c κs = search needs
+merges-to-requires : tie.Need-merges-to-requires
+merges-to-requires c κs = search needs
 
 same-length : tie.Need-same-length
 same-length c = search needs
 
 returns : tie.Need-returns
-returns c = λ q g k. becomes-none _ _ _ (c .before .before .before .resolve-pair .ensures .1 q g k) _ (c .if2 .taken)
-
-slice-reshare-prefix-equal : tie.Need-slice-reshare-prefix-equal
-slice-reshare-prefix-equal c =
-    let r = c .before .before .before in
-    omega (
-      arith,
-      r .resolve-pair .ensures .0,
-      r .resolve-pair .kept .0,
-      r .before .before .before .before .before .before .before .before .before .pre .0 .0,
-    )
-
-slice-aggregate-equal : tie.Need-slice-aggregate-equal
-slice-aggregate-equal c =
-    let r = c .before .before .before .before in
-    sym (length-take-le _ _
-    (omega (
-      arith,
-      r .resolve-pair .ensures .0,
-      r .resolve-pair .kept .0,
-      r .before .before .before .before .before .before .before .before .before .pre .0 .0,
-    )))
-
-equal-requires : tie.Need-equal-requires
-equal-requires c κs = search needs
-
-same-length-2 : tie.Need-same-length-2
-same-length-2 c = search needs
+returns c = c .before .before .merges-to .ensures
 
 returns-2 : tie.Need-returns-2
-returns-2 c =
-    let e = c .before .before in
-    λ q g k. becomes-same _ _ _ (e .before .before .before .resolve-pair .ensures .1 q g k) _ (e .if2 .left) _ (c .equal .ensures)
-
-returns-3 : tie.Need-returns-3
-returns-3 c = λ q g k. sym (not-covered q _ _ _ _ (sym (c .before .covered .ensures) ∙ c .if1 .left))
+returns-2 c = λ q g k. sym (not-covered q _ _ _ _ (sym (c .before .covered .ensures) ∙ c .if1 .left))
 
 pub is-resolvent-spec : {M : Type 1} → statement M
 is-resolvent-spec =
     tie.close
     (tie.spec
     covered-requires
-    resolve-pair-requires
+    merges-to-requires
     same-length
     returns
-    slice-reshare-prefix-equal
-    slice-aggregate-equal
-    equal-requires
-    same-length-2
-    returns-2
-    returns-3)
+    returns-2)
