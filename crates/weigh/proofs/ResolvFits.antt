@@ -1,15 +1,16 @@
 -- A clause with a literal that tidying does not take away has no resolvent without it.
 -- Assumes nothing.
-use Prim.Native.Nat.{ℕ, _/_, _≤_, _<_}
+use Prim.Native.Nat.{ℕ, zero, suc, _/_, _≤_, _<_}
 use mathlib.Core.Path.{_≡_, refl, sym, ap, _∙_}
 use mathlib.Core.Bool.{Bool, true, false, _||_, not, cond}
-use mathlib.Core.List.{List, _++_}
+use mathlib.Core.List.{List, [], _∷_, _++_}
+use lib.ListN.{take}
 use lib.Dec.{eqb}
 use Rattle.meaning.specs.Lists.{allOf, anyOf, keepIf, has, same, without}
 use Rattle.meaning.specs.Formula.{var, plain, negated, universal}
 use Rattle.meaning.specs.Tidy.{ascending, bothPhases, stays, reduce, dropped, kept, tidySorted, tidy}
 use Rattle.weigh.specs.Resolving.{resolvent, becomes, staysIn, fitsIn}
-use Rattle.meaning.proofs.Basics.{by-cases, false-of, clash, eqb-eq, eqb-ne, eqb-sym, or-il, or-ir}
+use Rattle.meaning.proofs.Basics.{by-cases, false-of, clash, and-i, and-l, and-r, eqb-eq, eqb-ne, eqb-sym, or-il, or-ir}
 use Rattle.meaning.proofs.Lists.{any-append, any-ascending, same-path, all-of-has, has-keep}
 
 -- The test of one literal ------------------------------------------------------------------------------------------------
@@ -74,3 +75,14 @@ module _ (p x y c : List ℕ) (a : ℕ) where
       false-of (becomes c (tidy p (resolvent a x y)))
       (λ e. clash (fits-all (negated a) y
       (λ l h d. either l ∙ or-ir (has l (without (plain a) x)) (has l (without (negated a) y)) (others-have l (negated a) y h d)) e) n)
+
+-- what fits fits with its first literals
+all-take : (f : ℕ → Bool) (n : ℕ) (l : List ℕ) → allOf f l ≡ true → allOf f (take n l) ≡ true
+unfolding allOf
+all-take f zero l t = refl
+all-take f (suc n) [] t = refl
+all-take f (suc n) (x ∷ l) t = and-i (f x) (allOf f (take n l)) (and-l (f x) (allOf f l) t) (all-take f n l (and-r (f x) (allOf f l) t))
+
+pub front-fits : (p c : List ℕ) (out n : ℕ) (y : List ℕ) → fitsIn p c out (take n y) ≡ false → fitsIn p c out y ≡ false
+unfolding fitsIn
+front-fits p c out n y e = false-of (allOf (staysIn p c out) y) (λ t. clash (all-take (staysIn p c out) n y t) e)

@@ -3,7 +3,7 @@ ghost use mathlib.Core.Path.{_≡_};
 ghost use Prim.Native.Nat.{ℕ, _≤_, _<_};
 ghost use mathlib.Core.Bool.{true, _||_};
 ghost use mathlib.Core.List.{List};
-ghost use lib.ListN.{length};
+ghost use lib.ListN.{length, take};
 ghost use Rattle.meaning.specs.Lists.{has};
 ghost use Rattle.meaning.specs.Tidy.{tidy};
 ghost use Rattle.meaning.specs.WellFormed.{goodPrefix};
@@ -18,8 +18,8 @@ use table::contains;
 use table::equal;
 use table::reduce_in;
 
-// From this many literals on a resolvent is sooner made than looked for literal by literal.
-const LONG: usize = 16;
+// From this many literals on a resolvent is sooner made than looked for literal by literal, once the first literals fit.
+const LONG: usize = 32;
 
 // The raw clause is complete: it is tidied in the scratch, by the ranks of the prefix.
 fn tidy_in(scratch: &mut [u16], p: Pending, ranks: &[u16]) -> Pending
@@ -145,7 +145,37 @@ fn is_resolvent(
     false
 }
 
-// The same, where y mostly has a literal that the clause lacks.
+// The first literals of a clause.
+fn front(clause: &[u16]) -> &[u16]
+    ensures { λ r. ⌜ now r ≡ take 32 (now (clause .entry)) ⌝ }
+{
+    if clause.len() <= LONG {
+        return clause;
+    }
+    &clause[..LONG]
+}
+
+// Whether the resolvent of x and y is the clause, a long one, where y mostly has a literal among its first that the clause lacks.
+fn gives_long(
+    scratch: &mut [u16],
+    x: &[u16],
+    y: &[u16],
+    a: usize,
+    ranks: &[u16],
+    clause: &[u16],
+) -> bool
+    requires { ⌜ (length (now scratch) ≡ 1023) × (a < 1024) × (length (now ranks) ≡ 1024) ⌝ }
+    requires { ⌜ Ordered (now x) × Ordered (now y) ⌝ }
+    ensures { λ r. ⌜ ((q : List ℕ) → goodEntries q ≡ true → now (ranks .entry) ≡ ranksOf q → r ≡ becomes (now (clause .entry)) (tidy q (resolvent a (now (x .entry)) (now (y .entry))))) ⌝ }
+{
+    let out = 2 * a as u16 + 1;
+    if fits_in(front(y), out, ranks, clause) {
+        return merges_to(scratch, x, y, a, ranks, clause);
+    }
+    false
+}
+
+// The same of any clause, where y mostly has a literal that it lacks.
 pub fn gives(
     scratch: &mut [u16],
     x: &[u16],
@@ -159,7 +189,7 @@ pub fn gives(
     ensures { λ r. ⌜ ((q : List ℕ) → goodEntries q ≡ true → now (ranks .entry) ≡ ranksOf q → r ≡ becomes (now (clause .entry)) (tidy q (resolvent a (now (x .entry)) (now (y .entry))))) ⌝ }
 {
     if LONG <= clause.len() {
-        return merges_to(scratch, x, y, a, ranks, clause);
+        return gives_long(scratch, x, y, a, ranks, clause);
     }
     let out = 2 * a as u16 + 1;
     if fits_in(y, out, ranks, clause) {

@@ -1,4 +1,4 @@
--- For a long clause the resolvent is made at once; else a clause with a literal too many gives nothing, and any other is tried.
+-- A long clause apart; else a clause with a literal too many gives nothing, and any other is tried.
 -- Assumes nothing.
 use mathlib.Core.Path.{sym, _∙_}
 use Rattle.meaning.specs.Formula.{negated}
@@ -8,14 +8,14 @@ use borrow.Author.Needs.{needs}
 use Rattle.weigh.proofs.resolvents.gives.Statement.{statement}
 use Rattle.weigh.proofs.resolvents.gives.Tie as tie
 
-merges-to-requires : tie.Need-merges-to-requires
-merges-to-requires c κs = search needs
+gives-long-requires : tie.Need-gives-long-requires
+gives-long-requires c κs = search needs
 
 same-length : tie.Need-same-length
 same-length c = search needs
 
 returns : tie.Need-returns
-returns c = λ q g k. c .before .before .merges-to .ensures q (good-entries q g) k
+returns c = c .before .before .gives-long .ensures
 
 cast-out : tie.Need-cast-out
 cast-out c = search needs
@@ -48,7 +48,7 @@ pub gives-spec : {M : Type 1} → statement M
 gives-spec =
     tie.close
     (tie.spec
-    merges-to-requires
+    gives-long-requires
     same-length
     returns
     cast-out
