@@ -35,7 +35,7 @@ always-light E equality old new e = refl
 always-light E resolve old new e = clash refl e
 always-light E expand old new e = clash refl e
 
-counts-if : (E : ℕ) (φ : Formula) (k : Kind) (a b : ℕ) → costly k ≡ false → allowedCall E φ k a b ≡ permitted φ k a b
+pub counts-if : (E : ℕ) (φ : Formula) (k : Kind) (a b : ℕ) → costly k ≡ false → allowedCall E φ k a b ≡ permitted φ k a b
 unfolding allowedCall wanted
 counts-if E φ k a b e = rw (always-light E k (weight φ) (weight (resultOf φ k a b)) e, e) (go (permitted φ k a b))
   where

@@ -18,7 +18,7 @@ use Rattle.meaning.proofs.Literals.{var-opp}
 use Rattle.rules.proofs.Permitted.{subsume-says, strengthen-says}
 
 -- The variables of clause a --------------------------------------------------------------------------------------
-mentioned : (y : List ℕ) (l k : ℕ) → var k ≡ var l → has k y ≡ true → mentions y (var l) ≡ true
+pub mentioned : (y : List ℕ) (l k : ℕ) → var k ≡ var l → has k y ≡ true → mentions y (var l) ≡ true
 unfolding mentions isVar
 mentioned y l k e h = any-has (λ q. eqb (var q) (var l)) y k h (eqb-eq e)
 

@@ -1,6 +1,6 @@
 -- Kind 4, strengthen: the test of one clause, which clauses are enough to look at, and the lowest of them.
 -- Assumes nothing.
-use Prim.Native.Nat.{ℕ, zero, suc, _+_, _*_, _≤_, _<_}
+use Prim.Native.Nat.{ℕ, _+_, _*_, _/_, _≤_, _<_}
 use mathlib.Core.Path.{_≡_, refl, sym, ap, _∙_}
 use mathlib.Core.Bool.{Bool, true, false, _||_}
 use mathlib.Core.List.{List, [], _∷_, _++_}
@@ -23,7 +23,7 @@ use Rattle.search.specs.Candidates.{foundAs, firstFor, someStrengthens, 
 use Rattle.search.specs.declared.Found.the-variants.{Nothing, Pair}
 use Rattle.meaning.proofs.Basics.{by-cases, false-of, clash, or-il, or-ir, or-elim, eqb-true, eqb-false}
 use Rattle.meaning.proofs.Lists.{any-append, any-witness, all-has, has-keep}
-use Rattle.meaning.proofs.Literals.{plain-is, negated-is}
+use Rattle.meaning.proofs.Literals.{plain-is, negated-is, var-opp}
 use Rattle.meaning.proofs.Ascends.{once-opp}
 use Rattle.rules.proofs.Permitted.{strengthen-says}
 use Rattle.table.proofs.HoldLaws.{count-clauses}
@@ -31,10 +31,15 @@ use Rattle.permits.proofs.ClauseLaws.{absent, present}
 use Rattle.index.proofs.ClauseLaws.{with-kept}
 use Rattle.search.proofs.StudyLaws.{clause-rises}
 use Rattle.search.proofs.MergeLaws.{strong-longer}
-use Rattle.search.proofs.SignedLaws.{strengthen-variables}
+use Rattle.search.proofs.SignedLaws.{mentioned, strengthen-variables}
+use Rattle.search.proofs.AmongLaws.{with-has, lists-none}
 use Rattle.search.proofs.LowestLaws.{lowest-all, lowest-none, lowest-nothing, lowest-found}
 
 -- The test of one clause: x is clause a --------------------------------------------------------------------------
+pub strong-no-a : {φ : Formula} {t : List ℕ} {c : Counts} → Holds φ t c → (a b : ℕ) → c .clauses ≤ a → false ≡ strengthenPermitted φ a b
+unfolding strengthenPermitted
+strong-no-a h a b n = rw (absent h a n)
+
 module _ {φ : Formula} {t : List ℕ} {c : Counts} (h : Holds φ t c) (a b : ℕ) (k : a < c .clauses) where
   pub strong-absent : c .clauses ≤ b → false ≡ strengthenPermitted φ a b
   unfolding strengthenPermitted
@@ -78,29 +83,15 @@ all-mentioned x y v a i =
     let q = eqb-true (var (w .0)) v (w .2) in
     ap (λ (n : ℕ). anyOf (λ k. eqb (var k) n) y) (sym q) ∙ all-has (λ l. anyOf (λ k. eqb (var k) (var l)) y) x (w .0) a (w .1)
 
-has-up : (s n b : ℕ) → s ≤ b → b < s + n → has b (upFrom s n) ≡ true
-unfolding upFrom has anyOf
-has-up s zero b h k = absurd (omega arith)
-has-up s (suc n) b h k =
-    by-cases (eqb b s)
-    (λ q. or-il (eqb b s) (anyOf (λ i. eqb b i) (upFrom (suc s) n)) q)
-    (λ q. let d = eqb-false b s q in or-ir (eqb b s) (anyOf (λ i. eqb b i) (upFrom (suc s) n)) (has-up (suc s) n b (omega arith) (omega arith)))
-
 -- a clause with the variable is in one of its two lists
 listed : (φ : Formula) (v b : ℕ) → b < length (φ .clauses) → mentions (clauseAt (φ .clauses) b) v ≡ true
     → has b (clausesWith (φ .clauses) (2 * v) ++ clausesWith (φ .clauses) (2 * v + 1)) ≡ true
 unfolding clauseAt
 listed φ v b h e =
     joined (or-elim (has (2 * v) (getD (φ .clauses) b [])) (has (2 * v + 1) (getD (φ .clauses) b [])) (either (getD (φ .clauses) b []) v e)
-    (λ q. or-il (has b (clausesWith (φ .clauses) (2 * v))) (has b (clausesWith (φ .clauses) (2 * v + 1))) (one (2 * v) q))
-    (λ q. or-ir (has b (clausesWith (φ .clauses) (2 * v))) (has b (clausesWith (φ .clauses) (2 * v + 1))) (one (2 * v + 1) q)))
+    (λ q. or-il (has b (clausesWith (φ .clauses) (2 * v))) (has b (clausesWith (φ .clauses) (2 * v + 1))) (with-has (φ .clauses) (2 * v) b h q))
+    (λ q. or-ir (has b (clausesWith (φ .clauses) (2 * v))) (has b (clausesWith (φ .clauses) (2 * v + 1))) (with-has (φ .clauses) (2 * v + 1) b h q)))
   where
-    one : (l : ℕ) → has l (getD (φ .clauses) b []) ≡ true → has b (clausesWith (φ .clauses) l) ≡ true
-    one l i =
-        rw (with-kept (φ .clauses) l)
-        (has-keep (λ j. has l (getD (φ .clauses) j [])) (upFrom 0 (length (φ .clauses))) b
-        (has-up 0 (length (φ .clauses)) b (omega arith) (omega arith)) i)
-
     joined : (has b (clausesWith (φ .clauses) (2 * v)) || has b (clausesWith (φ .clauses) (2 * v + 1))) ≡ true
         → has b (clausesWith (φ .clauses) (2 * v) ++ clausesWith (φ .clauses) (2 * v + 1)) ≡ true
     joined j = unfold has in any-append (λ k. eqb b k) (clausesWith (φ .clauses) (2 * v)) (clausesWith (φ .clauses) (2 * v + 1)) ∙ (unfold has in j)
@@ -108,6 +99,21 @@ listed φ v b h e =
 inside : (φ : Formula) (a b : ℕ) → strengthenPermitted φ a b ≡ true → b < length (φ .clauses)
 unfolding isClause
 inside φ a b e = ltb-true b (length (φ .clauses)) (strengthen-says φ a b e .there-b)
+
+-- a clause that strengthens y, which is clause b, is in one of the lists of y's variables
+pub strong-none : (φ : Formula) (b : ℕ) (y : List ℕ) → y ≡ getD (φ .clauses) b []
+    → anyOf (λ l. anyOf (λ a. strengthenPermitted φ a b) (clausesWith (φ .clauses) (2 * (l / 2)) ++ clausesWith (φ .clauses) (2 * (l / 2) + 1))) y ≡ false
+    → (a : ℕ) → strengthenPermitted φ a b ≡ false
+unfolding clauseAt var isClause
+strong-none φ b y at-b n =
+    lists-none (λ a. strengthenPermitted φ a b) (λ l. clausesWith (φ .clauses) (2 * (l / 2)) ++ clausesWith (φ .clauses) (2 * (l / 2) + 1)) y n
+    (λ a e. let s = strengthen-says φ a b e in
+    let l = strengthenLit φ a b in
+    record {
+      literal = opposite l;
+      inside = rw at-b (s .opp-in-b);
+      listed = listed φ (opposite l / 2) a (ltb-true a (length (φ .clauses)) (s .there-a)) (mentioned (clauseAt (φ .clauses) a) (opposite l) l (sym (var-opp l)) (s .in-a));
+    })
 
 -- The lowest -----------------------------------------------------------------------------------------------------
 module _ {φ : Formula} {t : List ℕ} {c : Counts} (h : Holds φ t c) (a : ℕ) where

@@ -3,7 +3,7 @@
 -- Assumes nothing.
 use Prim.Native.Nat.{ℕ}
 use mathlib.Core.Path.{_≡_}
-use mathlib.Core.Bool.{true, false}
+use mathlib.Core.Bool.{Bool, true, false}
 use mathlib.Core.List.{List}
 use lib.ListN.{take}
 use Rattle.meaning.specs.Lists.{anyOf, partOf, same}
@@ -18,3 +18,8 @@ pub record Quiet (p : List ℕ) (cs : List (List ℕ)) : Type 0 where
 -- the first m clauses of the formula are quiet
 unfoldable pub QuietTo : Formula → ℕ → Type 0
 QuietTo φ m = Quiet (φ .prefix) (take m (φ .clauses))
+
+-- a test of two numbers fails for b with any other, on either side
+pub record Alone (t : ℕ → ℕ → Bool) (b : ℕ) : Type 0 where
+  pub left : (d : ℕ) → t b d ≡ false
+  pub right : (a : ℕ) → t a b ≡ false
