@@ -10,22 +10,28 @@ use lib.Dec.{eqb}
 use borrow.Author.Tests.{lt-ltb, ltb-true}
 use native.Mathlib.Omega.{arith}
 use native.Mathlib.Nat.{le-of-suc-le-suc}
-use Rattle.meaning.specs.Lists.{anyOf, partOf, same}
+use Rattle.meaning.specs.Lists.{anyOf, has, partOf, same}
 use Rattle.meaning.specs.Formula.{Formula}
 use Rattle.meaning.specs.WellFormed.{distinct, wellFormed}
 use Rattle.rules.specs.Entry.{Kind, subsume, strengthen, usesB}
 use Rattle.rules.specs.Simplify.{clauseAt, isClause, strengthens, subsumePermitted, strengthenPermitted}
 use Rattle.rules.specs.Step.{permitted}
 use Rattle.rules.specs.Choice.{none, orElse, firstPair, firsts, seconds, costly, candidate}
-use Rattle.search.specs.Candidates.{someStrengthens}
-use Rattle.search.specs.Quiet.{Quiet, QuietTo, Alone}
+use Rattle.table.specs.Table.{Holds}
+use Rattle.table.specs.declared.Counts.{Counts}
+use Rattle.search.specs.Candidates.{foundAs, firstFor, someStrengthens, Lowest}
+use Rattle.search.specs.Quiet.{QuietTo, Alone}
+use Rattle.search.specs.declared.Found.{Found}
+use Rattle.search.specs.declared.Found.the-variants.{Nothing}
 use Rattle.meaning.proofs.Basics.{by-cases, false-of, clash, and-l, and-r, or-il, or-elim, not-true, eqb-self, eqb-true, eqb-false, eqb-ne}
 use Rattle.meaning.proofs.Lists.{any-append, same-path, same-self, same-turn}
 use Rattle.meaning.proofs.Parts.{distinct-of}
 use Rattle.rules.proofs.Permitted.{subsume-says, strengthen-says}
-use Rattle.rules.proofs.Choose.{find-none}
+use Rattle.rules.proofs.Search.{none-pair}
+use Rattle.rules.proofs.Choose.{listed, find-none}
+use Rattle.table.proofs.HoldLaws.{count-clauses}
 use Rattle.search.proofs.PrefixLaws.{any-at}
-use Rattle.search.proofs.FirstLaws.{first-none}
+use Rattle.search.proofs.FirstLaws.{told-none, first-none}
 use Rattle.search.proofs.CandidateLaws.{counts-if, candidateFrom, from-start}
 
 -- Pairs of numbers -----------------------------------------------------------------------------------------------
@@ -186,3 +192,37 @@ module _ (φ : Formula) where
   -- and so they are where both kinds have no candidate
   pub quiet-all : (E : ℕ) → candidate E φ subsume ≡ none → candidate E φ strengthen ≡ none → (m : ℕ) → QuietTo φ m
   quiet-all E e f = quiet-of (subsume-none E φ e) (strengthen-none E φ f)
+
+-- The loop over the clauses that are not known to be quiet: b is the next -----------------------------------------
+-- where the search for the b of clause a finds nothing, there is none
+first-alone : (φ : Formula) (a : ℕ) → firstFor φ subsume a ≡ none → (b : ℕ) → subsumePermitted φ a b ≡ false
+unfolding firstFor permitted usesB firstPair orElse has anyOf
+first-alone φ a e b =
+    false-of (subsumePermitted φ a b)
+    (λ p. clash p
+    (none-pair (permitted φ subsume) (a ∷ []) (seconds φ subsume) (rw e) a b (or-il (eqb a a) false (eqb-self a))
+    (listed φ subsume a b refl p .1)))
+
+module _ {φ : Formula} {t : List ℕ} {c : Counts} (h : Holds φ t c) (b : ℕ) where
+  pub subsume-alone : (f : Found) → f ≡ foundAs (firstFor φ subsume b) → f ≡ Nothing → ((a : ℕ) → subsumePermitted φ a b ≡ false)
+      → Alone (subsumePermitted φ) b
+  subsume-alone f is e into = record { left = first-alone φ b (told-none (firstFor φ subsume b) (sym is ∙ e)); right = into }
+
+  pub strengthen-alone : (r : ℕ) → Lowest (strengthenPermitted φ b) (c .clauses) r → c .clauses ≤ r
+      → ((a : ℕ) → strengthenPermitted φ a b ≡ false) → Alone (strengthenPermitted φ) b
+  strengthen-alone r low n into =
+      record {
+        left = λ d. false-of (strengthenPermitted φ b d)
+            (λ e. let i = strengthen-inside φ b d e in clash e (low .least d (omega (arith, count-clauses h))));
+        right = into;
+      }
+
+  -- none is left
+  module _ (n : c .clauses ≤ b) (E : ℕ) where
+    pub subsume-end : Calm (subsumePermitted φ) b → candidate E φ subsume ≡ none
+    subsume-end calm =
+        no-subsume E φ (calm-end (subsumePermitted φ) b calm (length (φ .clauses)) (omega (arith, count-clauses h)) (subsume-inside φ))
+
+    pub strengthen-end : Calm (strengthenPermitted φ) b → candidate E φ strengthen ≡ none
+    strengthen-end calm =
+        no-strengthen E φ (calm-end (strengthenPermitted φ) b calm (length (φ .clauses)) (omega (arith, count-clauses h)) (strengthen-inside φ))

@@ -1,17 +1,20 @@
 // Kind 4, strengthen: the lowest clause a that strengthens a clause, and the lowest of those.
 ghost use mathlib.Core.Path.{_≡_};
 ghost use Prim.Native.Nat.{ℕ, _<_};
-ghost use mathlib.Core.Bool.{true};
-ghost use lib.ListN.{length};
+ghost use mathlib.Core.Bool.{true, false};
+ghost use mathlib.Core.List.{[]};
+ghost use lib.ListN.{length, getD};
+ghost use Rattle.meaning.specs.Lists.{anyOf};
 ghost use Rattle.meaning.specs.Formula.{Formula};
 ghost use Rattle.meaning.specs.WellFormed.{wellFormed};
 ghost use Rattle.rules.specs.Entry as rules;
-ghost use Rattle.rules.specs.Choice.{candidate};
+ghost use Rattle.rules.specs.Choice.{none, candidate};
 ghost use Rattle.rules.specs.Simplify.{strengthenPermitted};
 ghost use Rattle.table.specs.Table.{Holds, Held};
 ghost use Rattle.table.specs.Ranks.{ranksOf};
 ghost use Rattle.index.specs.Study.{Studied, Study};
 ghost use Rattle.search.specs.Candidates.{foundAs, Signed, lowerIf, lowest, Lowest};
+ghost use Rattle.search.specs.Quiet.{QuietTo, Alone};
 use crate::Found;
 use crate::merges::strengthens_part;
 use crate::rarity::rarest_variable;
@@ -133,7 +136,8 @@ fn strengthened_by(t: &[u16], c: Counts, ranks: &[u16], index: &[u16], a: usize)
     )
 }
 
-pub fn find_strengthen(t: &[u16], c: Counts, ranks: &[u16], index: &[u16]) -> Found
+// All clauses are looked at.
+fn search_all(t: &[u16], c: Counts, ranks: &[u16], index: &[u16]) -> Found
     requires { ⌜ Study (now t) c (now ranks) (now index) ⌝ }
     ensures { λ r. ⌜ ((φ : Formula) (E : ℕ) → Studied φ (now (t .entry)) c (now (ranks .entry)) (now (index .entry)) → r ≡ foundAs (candidate E φ rules.strengthen)) ⌝ }
 {
@@ -146,4 +150,102 @@ pub fn find_strengthen(t: &[u16], c: Counts, ranks: &[u16], index: &[u16]) -> Fo
         a += 1;
     }
     Found::Nothing
+}
+
+// Whether there is a clause a, and some literal of it strengthens y, which is clause b.
+fn strengthens(t: &[u16], c: Counts, ranks: &[u16], y: &[u16], a: usize, b: usize) -> bool
+    requires { ⌜ Held (now t) c ⌝ }
+    requires { ⌜ length (now ranks) ≡ 1024 ⌝ }
+    requires { ⌜ b < c .clauses ⌝ }
+    ensures { λ r. ⌜ ((φ : Formula) → Holds φ (now (t .entry)) c → wellFormed φ ≡ true → now (ranks .entry) ≡ ranksOf (φ .prefix) → now (y .entry) ≡ getD (φ .clauses) b [] → r ≡ strengthenPermitted φ a b) ⌝ }
+{
+    if c.clauses <= a {
+        return false;
+    }
+    if a == b {
+        return false;
+    }
+    let x = clause_at(t, c, a);
+    if y.len() < x.len() {
+        return false;
+    }
+    strengthens_part(ranks, x, y)
+}
+
+// Whether one of these clauses strengthens y, which is clause b.
+fn any_stronger(t: &[u16], c: Counts, ranks: &[u16], among: &[u16], y: &[u16], b: usize) -> bool
+    requires { ⌜ Held (now t) c ⌝ }
+    requires { ⌜ length (now ranks) ≡ 1024 ⌝ }
+    requires { ⌜ b < c .clauses ⌝ }
+    ensures { λ r. ⌜ ((φ : Formula) → Holds φ (now (t .entry)) c → wellFormed φ ≡ true → now (ranks .entry) ≡ ranksOf (φ .prefix) → now (y .entry) ≡ getD (φ .clauses) b [] → r ≡ anyOf (λ a. strengthenPermitted φ a b) (now (among .entry))) ⌝ }
+{
+    let mut i = 0;
+    while i < among.len() {
+        if strengthens(t, c, ranks, y, among[i] as usize, b) {
+            return true;
+        }
+        i += 1;
+    }
+    false
+}
+
+// Whether some clause strengthens y, which is clause b. Such a clause has a variable of y, so the clauses with one of them are looked at.
+fn has_stronger(t: &[u16], c: Counts, ranks: &[u16], index: &[u16], y: &[u16], b: usize) -> bool
+    requires { ⌜ Study (now t) c (now ranks) (now index) ⌝ }
+    requires { ⌜ b < c .clauses ⌝ }
+    ensures { λ r. ⌜ ((φ : Formula) → Studied φ (now (t .entry)) c (now (ranks .entry)) (now (index .entry)) → now (y .entry) ≡ getD (φ .clauses) b [] → r ≡ false → (a : ℕ) → strengthenPermitted φ a b ≡ false) ⌝ }
+{
+    let mut j = 0;
+    while j < y.len() {
+        if any_stronger(t, c, ranks, clauses_of(index, y[j] / 2), y, b) {
+            return true;
+        }
+        j += 1;
+    }
+    false
+}
+
+// Whether clause b strengthens none, and none strengthens it.
+fn is_apart(t: &[u16], c: Counts, ranks: &[u16], index: &[u16], b: usize) -> bool
+    requires { ⌜ Study (now t) c (now ranks) (now index) ⌝ }
+    requires { ⌜ b < c .clauses ⌝ }
+    ensures { λ r. ⌜ ((φ : Formula) → Studied φ (now (t .entry)) c (now (ranks .entry)) (now (index .entry)) → r ≡ true → Alone (strengthenPermitted φ) b) ⌝ }
+{
+    if strengthened_by(t, c, ranks, index, b) < c.clauses {
+        return false;
+    }
+    if has_stronger(t, c, ranks, index, clause_at(t, c, b), b) {
+        return false;
+    }
+    true
+}
+
+// Whether the clauses from number `quiet` on are all apart: then there is no candidate, where those before are quiet.
+fn none_new(t: &[u16], c: Counts, ranks: &[u16], index: &[u16], quiet: usize) -> bool
+    requires { ⌜ Study (now t) c (now ranks) (now index) ⌝ }
+    ensures { λ r. ⌜ ((φ : Formula) (E : ℕ) → Studied φ (now (t .entry)) c (now (ranks .entry)) (now (index .entry)) → QuietTo φ quiet → r ≡ true → candidate E φ rules.strengthen ≡ none) ⌝ }
+{
+    let mut b = quiet;
+    while b < c.clauses {
+        if is_apart(t, c, ranks, index, b) {
+            b += 1;
+            continue;
+        }
+        return false;
+    }
+    true
+}
+
+// The first `quiet` clauses are known to be quiet (0: nothing is known): mostly nothing is new then, and that is told by a look at the
+// others.
+pub fn find_strengthen(t: &[u16], c: Counts, ranks: &[u16], index: &[u16], quiet: usize) -> Found
+    requires { ⌜ Study (now t) c (now ranks) (now index) ⌝ }
+    ensures { λ r. ⌜ ((φ : Formula) (E : ℕ) → Studied φ (now (t .entry)) c (now (ranks .entry)) (now (index .entry)) → QuietTo φ quiet → r ≡ foundAs (candidate E φ rules.strengthen)) ⌝ }
+{
+    if quiet != 0 {
+        if none_new(t, c, ranks, index, quiet) {
+            return Found::Nothing;
+        }
+    }
+    search_all(t, c, ranks, index)
 }

@@ -2,15 +2,19 @@
 ghost use mathlib.Core.Path.{_≡_};
 ghost use Prim.Native.Nat.{ℕ, _<_};
 ghost use mathlib.Core.Bool.{true, false};
+ghost use mathlib.Core.List.{[]};
+ghost use lib.ListN.{getD};
+ghost use Rattle.meaning.specs.Lists.{anyOf};
 ghost use Rattle.meaning.specs.Formula.{Formula};
 ghost use Rattle.meaning.specs.Game.{emptyClause};
 ghost use Rattle.meaning.specs.WellFormed.{wellFormed};
 ghost use Rattle.rules.specs.Entry as rules;
 ghost use Rattle.rules.specs.Simplify.{subsumePermitted};
-ghost use Rattle.rules.specs.Choice.{firstB, candidate};
+ghost use Rattle.rules.specs.Choice.{none, firstB, candidate};
 ghost use Rattle.table.specs.Table.{Holds, Held};
 ghost use Rattle.index.specs.Index.{Indexes, Indexed};
 ghost use Rattle.search.specs.Candidates.{foundAs, firstFor, Signed};
+ghost use Rattle.search.specs.Quiet.{QuietTo, Alone};
 use crate::Found;
 use crate::merges::is_part;
 use crate::rarity::rarest;
@@ -93,8 +97,8 @@ fn subsumed_by(t: &[u16], c: Counts, index: &[u16], a: usize) -> Found
     first_subsumed(t, c, signs, sign, x, a, clauses_with(index, l))
 }
 
-// No clause may be empty: then the formula is false, and no step is looked for.
-pub fn find_subsume(t: &[u16], c: Counts, index: &[u16]) -> Found
+// All clauses are looked at.
+fn search_all(t: &[u16], c: Counts, index: &[u16]) -> Found
     requires { ⌜ Held (now t) c ⌝ }
     requires { ⌜ Indexed (now index) ⌝ }
     ensures { λ r. ⌜ ((φ : Formula) (E : ℕ) → Holds φ (now (t .entry)) c → Indexes φ (now (index .entry)) → emptyClause (φ .clauses) ≡ false → r ≡ foundAs (candidate E φ rules.subsume)) ⌝ }
@@ -112,4 +116,108 @@ pub fn find_subsume(t: &[u16], c: Counts, index: &[u16]) -> Found
         }
     }
     Found::Nothing
+}
+
+// Whether clause a is another one than b, and a part of y, which is clause b.
+fn subsumes(t: &[u16], c: Counts, y: &[u16], a: usize, b: usize) -> bool
+    requires { ⌜ Held (now t) c ⌝ }
+    requires { ⌜ b < c .clauses ⌝ }
+    ensures { λ r. ⌜ ((φ : Formula) → Holds φ (now (t .entry)) c → wellFormed φ ≡ true → now (y .entry) ≡ getD (φ .clauses) b [] → r ≡ subsumePermitted φ a b) ⌝ }
+{
+    if c.clauses <= a {
+        return false;
+    }
+    if a == b {
+        return false;
+    }
+    let x = clause_at(t, c, a);
+    if y.len() < x.len() {
+        return false;
+    }
+    is_part(x, y)
+}
+
+// Whether one of these clauses, another one than b, is a part of y, which is clause b.
+fn any_part(t: &[u16], c: Counts, among: &[u16], y: &[u16], b: usize) -> bool
+    requires { ⌜ Held (now t) c ⌝ }
+    requires { ⌜ b < c .clauses ⌝ }
+    ensures { λ r. ⌜ ((φ : Formula) → Holds φ (now (t .entry)) c → wellFormed φ ≡ true → now (y .entry) ≡ getD (φ .clauses) b [] → r ≡ anyOf (λ a. subsumePermitted φ a b) (now (among .entry))) ⌝ }
+{
+    let mut k = 0;
+    while k < among.len() {
+        if subsumes(t, c, y, among[k] as usize, b) {
+            return true;
+        }
+        k += 1;
+    }
+    false
+}
+
+// Whether another clause is a part of y, which is clause b. A part of y has one of its literals, as no clause is empty; so the clauses
+// with one of them are looked at.
+fn has_part(t: &[u16], c: Counts, index: &[u16], y: &[u16], b: usize) -> bool
+    requires { ⌜ Held (now t) c ⌝ }
+    requires { ⌜ Indexed (now index) ⌝ }
+    requires { ⌜ b < c .clauses ⌝ }
+    ensures { λ r. ⌜ ((φ : Formula) → Holds φ (now (t .entry)) c → Indexes φ (now (index .entry)) → emptyClause (φ .clauses) ≡ false → now (y .entry) ≡ getD (φ .clauses) b [] → r ≡ false → (a : ℕ) → subsumePermitted φ a b ≡ false) ⌝ }
+{
+    let mut j = 0;
+    while j < y.len() {
+        if any_part(t, c, clauses_with(index, y[j]), y, b) {
+            return true;
+        }
+        j += 1;
+    }
+    false
+}
+
+// Whether clause b is a part of no other, and no other is a part of it.
+fn is_apart(t: &[u16], c: Counts, index: &[u16], b: usize) -> bool
+    requires { ⌜ Held (now t) c ⌝ }
+    requires { ⌜ Indexed (now index) ⌝ }
+    requires { ⌜ b < c .clauses ⌝ }
+    ensures { λ r. ⌜ ((φ : Formula) → Holds φ (now (t .entry)) c → Indexes φ (now (index .entry)) → emptyClause (φ .clauses) ≡ false → r ≡ true → Alone (subsumePermitted φ) b) ⌝ }
+{
+    let first = subsumed_by(t, c, index, b);
+    match first {
+        Found::Nothing => {
+            if has_part(t, c, index, clause_at(t, c, b), b) {
+                return false;
+            }
+            true
+        }
+        Found::Pair(_, _) => false,
+    }
+}
+
+// Whether the clauses from number `quiet` on are all apart: then there is no candidate, where those before are quiet.
+fn none_new(t: &[u16], c: Counts, index: &[u16], quiet: usize) -> bool
+    requires { ⌜ Held (now t) c ⌝ }
+    requires { ⌜ Indexed (now index) ⌝ }
+    ensures { λ r. ⌜ ((φ : Formula) (E : ℕ) → Holds φ (now (t .entry)) c → Indexes φ (now (index .entry)) → emptyClause (φ .clauses) ≡ false → QuietTo φ quiet → r ≡ true → candidate E φ rules.subsume ≡ none) ⌝ }
+{
+    let mut b = quiet;
+    while b < c.clauses {
+        if is_apart(t, c, index, b) {
+            b += 1;
+            continue;
+        }
+        return false;
+    }
+    true
+}
+
+// The first `quiet` clauses are known to be quiet (0: nothing is known): mostly nothing is new then, and that is told by a look at the
+// others. No clause may be empty: then the formula is false, and no step is looked for.
+pub fn find_subsume(t: &[u16], c: Counts, index: &[u16], quiet: usize) -> Found
+    requires { ⌜ Held (now t) c ⌝ }
+    requires { ⌜ Indexed (now index) ⌝ }
+    ensures { λ r. ⌜ ((φ : Formula) (E : ℕ) → Holds φ (now (t .entry)) c → Indexes φ (now (index .entry)) → emptyClause (φ .clauses) ≡ false → QuietTo φ quiet → r ≡ foundAs (candidate E φ rules.subsume)) ⌝ }
+{
+    if quiet != 0 {
+        if none_new(t, c, index, quiet) {
+            return Found::Nothing;
+        }
+    }
+    search_all(t, c, index)
 }
