@@ -2,19 +2,19 @@
 -- Assumes nothing.
 use Prim.Native.Nat.{ℕ, zero, suc, _+_, _≤_, _<_}
 use mathlib.Core.Path.{_≡_, refl, sym, ap, _∙_}
-use mathlib.Core.Bool.{Bool, true, false, _&&_, _||_, not}
-use mathlib.Core.List.{List, [], _∷_, _++_}
+use mathlib.Core.Bool.{Bool, true, false, not}
+use mathlib.Core.List.{List, [], _∷_}
 use lib.ListN.{length, getD, take, drop, length-take, take-append-drop}
 use lib.Seq.{getD-take}
 use lib.Dec.{eqb}
 use borrow.Author.Tests.{lt-ltb, ltb-true}
 use native.Mathlib.Omega.{arith}
 use native.Mathlib.Nat.{le-of-suc-le-suc}
-use Rattle.meaning.specs.Lists.{anyOf, has, partOf, same}
+use Rattle.meaning.specs.Lists.{anyOf, has, same}
 use Rattle.meaning.specs.Formula.{Formula}
 use Rattle.meaning.specs.WellFormed.{distinct, wellFormed}
 use Rattle.rules.specs.Entry.{Kind, subsume, strengthen, usesB}
-use Rattle.rules.specs.Simplify.{clauseAt, isClause, strengthens, subsumePermitted, strengthenPermitted}
+use Rattle.rules.specs.Simplify.{clauseAt, isClause, subsumePermitted, strengthenPermitted}
 use Rattle.rules.specs.Step.{permitted}
 use Rattle.rules.specs.Choice.{none, orElse, firstPair, firsts, seconds, costly, candidate}
 use Rattle.table.specs.Table.{Holds}
@@ -70,6 +70,10 @@ module _ (φ : Formula) (a b : ℕ) where
   strengthen-inside e =
       let s = strengthen-says φ a b e in
       (ltb-true a (length (φ .clauses)) (s .there-a), ltb-true b (length (φ .clauses)) (s .there-b))
+
+  strengthen-some : strengthenPermitted φ a b ≡ true → someStrengthens (φ .prefix) (clauseAt (φ .clauses) a) (clauseAt (φ .clauses) b) ≡ true
+  unfolding strengthenPermitted someStrengthens
+  strengthen-some e = search (and-l, and-r)
 
 -- No pair is permitted, and there is no candidate ------------------------------------------------------------------
 pair-none : (t : ℕ → ℕ → Bool) (l bs : List ℕ) → ((a b : ℕ) → t a b ≡ false) → firstPair t l bs ≡ none
@@ -135,13 +139,13 @@ module _ (φ : Formula) (m : ℕ) (quiet : QuietTo φ m) where
       }
 
   pub calm-strengthen : Calm (strengthenPermitted φ) m
-  unfolding QuietTo strengthenPermitted someStrengthens clauseAt
+  unfolding QuietTo clauseAt
   calm-strengthen =
       record {
         fails = λ a b h k. false-of (strengthenPermitted φ a b)
             (λ e. let i = strengthen-inside φ a b e in
             let cs = φ .clauses in
-            clash (and-r (isClause cs b) (anyOf (strengthens (φ .prefix) (getD cs a []) (getD cs b [])) (getD cs a [])) (and-r (isClause cs a) (isClause cs b && anyOf (strengthens (φ .prefix) (getD cs a []) (getD cs b [])) (getD cs a [])) e))
+            clash (strengthen-some φ a b e)
             (quiet .no-stronger (getD cs a []) (getD cs b []) (among cs m a h (i .0)) (among cs m b k (i .1))));
       }
 

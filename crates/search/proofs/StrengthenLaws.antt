@@ -8,7 +8,7 @@ use lib.ListN.{length, getD}
 use lib.Dec.{eqb}
 use borrow.Author.Tests.{ltb-true}
 use native.Mathlib.Omega.{arith}
-use Rattle.meaning.specs.Lists.{anyOf, has, upFrom}
+use Rattle.meaning.specs.Lists.{anyOf, has}
 use Rattle.meaning.specs.Formula.{Formula, var, odd, opposite, isVar, mentions}
 use Rattle.meaning.specs.WellFormed.{wellFormed}
 use Rattle.rules.specs.Entry.{strengthen, usesB}
@@ -21,14 +21,13 @@ use Rattle.index.specs.Index.{clausesWith}
 use Rattle.index.specs.Signs.{variablesIn}
 use Rattle.search.specs.Candidates.{foundAs, firstFor, someStrengthens, lowest, Lowest}
 use Rattle.search.specs.declared.Found.the-variants.{Nothing, Pair}
-use Rattle.meaning.proofs.Basics.{by-cases, false-of, clash, or-il, or-ir, or-elim, eqb-true, eqb-false}
-use Rattle.meaning.proofs.Lists.{any-append, any-witness, all-has, has-keep}
+use Rattle.meaning.proofs.Basics.{by-cases, false-of, clash, or-il, or-ir, or-elim, eqb-true}
+use Rattle.meaning.proofs.Lists.{any-append, any-witness, all-has}
 use Rattle.meaning.proofs.Literals.{plain-is, negated-is, var-opp}
 use Rattle.meaning.proofs.Ascends.{once-opp}
 use Rattle.rules.proofs.Permitted.{strengthen-says}
 use Rattle.table.proofs.HoldLaws.{count-clauses}
 use Rattle.permits.proofs.ClauseLaws.{absent, present}
-use Rattle.index.proofs.ClauseLaws.{with-kept}
 use Rattle.search.proofs.StudyLaws.{clause-rises}
 use Rattle.search.proofs.MergeLaws.{strong-longer}
 use Rattle.search.proofs.SignedLaws.{mentioned, strengthen-variables}

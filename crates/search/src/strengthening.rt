@@ -236,8 +236,8 @@ fn none_new(t: &[u16], c: Counts, ranks: &[u16], index: &[u16], quiet: usize) ->
     true
 }
 
-// The first `quiet` clauses are known to be quiet (0: nothing is known): mostly nothing is new then, and that is told by a look at the
-// others.
+// The first `quiet` clauses are known to be quiet (0: nothing is known). Where they are, the others are looked at first: mostly these
+// show that there is no candidate.
 pub fn find_strengthen(t: &[u16], c: Counts, ranks: &[u16], index: &[u16], quiet: usize) -> Found
     requires { ⌜ Study (now t) c (now ranks) (now index) ⌝ }
     ensures { λ r. ⌜ ((φ : Formula) (E : ℕ) → Studied φ (now (t .entry)) c (now (ranks .entry)) (now (index .entry)) → QuietTo φ quiet → r ≡ foundAs (candidate E φ rules.strengthen)) ⌝ }

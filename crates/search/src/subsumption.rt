@@ -207,8 +207,8 @@ fn none_new(t: &[u16], c: Counts, index: &[u16], quiet: usize) -> bool
     true
 }
 
-// The first `quiet` clauses are known to be quiet (0: nothing is known): mostly nothing is new then, and that is told by a look at the
-// others. No clause may be empty: then the formula is false, and no step is looked for.
+// The first `quiet` clauses are known to be quiet (0: nothing is known). Where they are, the others are looked at first: mostly these
+// show that there is no candidate. No clause may be empty: then the formula is false, and no step is looked for.
 pub fn find_subsume(t: &[u16], c: Counts, index: &[u16], quiet: usize) -> Found
     requires { ⌜ Held (now t) c ⌝ }
     requires { ⌜ Indexed (now index) ⌝ }

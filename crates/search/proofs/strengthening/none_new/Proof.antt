@@ -1,7 +1,7 @@
 -- The loop's invariant: where the first clauses are quiet, no pair of clauses before b is permitted.
 -- Assumes nothing.
 use Prim.Native.Nat.{_-_}
-use mathlib.Core.Path.{_≡_, refl}
+use mathlib.Core.Path.{refl}
 use native.Mathlib.Omega.{arith}
 use Rattle.meaning.specs.Formula.{Formula}
 use Rattle.rules.specs.Simplify.{strengthenPermitted}

@@ -1,6 +1,6 @@
 -- Nothing found for clause b as the first, and no other that is a part of it.
 -- Assumes nothing.
-use mathlib.Core.Path.{refl, sym}
+use mathlib.Core.Path.{refl}
 use Rattle.meaning.proofs.Basics.{clash}
 use Rattle.search.proofs.QuietLaws.{subsume-alone}
 use borrow.Author.Needs.{needs}
