@@ -1,5 +1,6 @@
 pub mod BestLaws
 pub mod HandLaws
 pub mod KindLaws
+pub mod QuietLaws
 pub mod TurnLaws
 pub mod UniversalLaws
