@@ -1,32 +1,43 @@
 -- What is at hand, from kind to kind.
 -- Assumes nothing.
-use Prim.Native.Nat.{ℕ, _≤_}
+use Prim.Native.Nat.{ℕ, _+_, _*_, _≤_}
 use mathlib.Core.Path.{_≡_, sym, ap, _∙_}
 use mathlib.Core.Bool.{Bool, true, false}
 use mathlib.Core.List.{List}
 use native.Mathlib.Omega.{arith}
 use lib.ListN.{length, take}
 use lib.Seq.{length-take-le}
-use Rattle.meaning.specs.Formula.{Formula}
+use Rattle.meaning.specs.Lists.{has}
+use Rattle.meaning.specs.Formula.{Formula, universal}
 use Rattle.meaning.specs.Game.{emptyClause}
 use Rattle.meaning.specs.WellFormed.{wellFormed}
 use Rattle.table.specs.Table.{Holds, Held}
 use Rattle.table.specs.Ranks.{ranksOf, goodEntries, Ranked}
 use Rattle.table.specs.declared.Counts.{Counts}
 use Rattle.table.proofs.HoldLaws.{prefix-is, held, bounds}
+use Rattle.table.proofs.DecodeLaws.{decode-holds}
 use Rattle.permits.proofs.PlaceLaws.{entries-of}
 use Rattle.index.specs.Study.{Studied, Study}
 use Rattle.index.specs.Build.{HeldWell, tallyOf, Tallies}
+use Rattle.search.specs.Quiet.{QuietTo}
+use Rattle.search.proofs.QuietLaws.{quiet-none}
 use Rattle.weigh.specs.Weights.{NoneSubsumed}
 use Rattle.choice.specs.Chosen as choice
-use Rattle.choice.specs.Chosen.{Unsettled, Busy, Apart, Ranks}
+use Rattle.choice.specs.Chosen.{HeldQuiet, Unsettled, Busy, Unsubsumed, Apart, Ranks}
 
 module _ {t : List ℕ} {c : Counts} {ranks index : List ℕ} where
-  pub busy-study : Busy t c ranks index → Study t c ranks index
-  busy-study b = record { formula = b .formula; studied = b .studied }
+  module _ {m : ℕ} where
+    pub busy-study : Busy t c ranks index m → Study t c ranks index
+    busy-study b = record { formula = b .formula; studied = b .studied }
 
-  pub busy-apart : (b : Busy t c ranks index) → NoneSubsumed (b .formula) → Apart t c ranks index
-  busy-apart b n = record { formula = b .formula; studied = b .studied; apart = n }
+    pub busy-unsubsumed : (b : Busy t c ranks index m) → NoneSubsumed (b .formula) → Unsubsumed t c ranks index m
+    busy-unsubsumed b n = record { formula = b .formula; studied = b .studied; apart = n; quiet = b .quiet }
+
+    pub unsubsumed-study : Unsubsumed t c ranks index m → Study t c ranks index
+    unsubsumed-study b = record { formula = b .formula; studied = b .studied }
+
+    pub unsubsumed-apart : Unsubsumed t c ranks index m → Apart t c ranks index
+    unsubsumed-apart b = record { formula = b .formula; studied = b .studied; apart = b .apart }
 
   pub apart-study : Apart t c ranks index → Study t c ranks index
   apart-study b = record { formula = b .formula; studied = b .studied }
@@ -43,19 +54,34 @@ module _ {φ : Formula} {t : List ℕ} {c : Counts} (h : Holds φ t c) (w : well
   ranked-is {r} {ranks} k =
       let good : r ≡ true = k .answer ∙ ap goodEntries (prefix-is h) ∙ entries-of φ w (h .fitting) in k .table good ∙ ap ranksOf (prefix-is h)
 
-pub unsettled-well : {t : List ℕ} {c : Counts} → Unsettled t c → HeldWell t c
+pub unsettled-well : {t : List ℕ} {c : Counts} {m : ℕ} → Unsettled t c m → HeldWell t c
 unsettled-well u = record { formula = u .formula; holds = u .holds; well = u .well }
+
+pub unsettled-held : {t : List ℕ} {c : Counts} {m : ℕ} → Unsettled t c m → Held t c
+unsettled-held u = held (u .holds)
+
+-- where nothing is known
+pub quiet-start : {t : List ℕ} {c : Counts} → HeldWell t c → HeldQuiet t c 0
+quiet-start k = record { formula = k .formula; holds = k .holds; well = k .well; quiet = quiet-none (k .formula) }
+
+-- a table holds one formula, so what is known of it is known of each that it holds
+pub quiet-held : {φ : Formula} {t : List ℕ} {c : Counts} {m : ℕ} → HeldQuiet t c m → Holds φ t c → QuietTo φ m
+quiet-held {φ} {t} {c} {m} k h =
+    let e : k .formula ≡ φ = sym (decode-holds (k .formula) t c (k .holds)) ∙ decode-holds φ t c h in rw e at (k .quiet)
 
 -- the tally of the formula
 pub tally-of : {φ : Formula} {t tally : List ℕ} {c : Counts} → Holds φ t c → wellFormed φ ≡ true → tally ≡ tallyOf (φ .clauses) → Tallies φ tally
 tally-of h w e = record { well = w; fitting = h .fitting; counts = e }
 
-pub well-held : {t : List ℕ} {c : Counts} → HeldWell t c → Held t c
-well-held k = held (k .holds)
+-- the part of the table that is lent with the prefix
+pub prefix-part : {t : List ℕ} {c : Counts} → Held t c → c .variables ≡ length (take (c .variables) t)
+prefix-part {t} {c} h = let b = bounds h in sym (length-take-le (c .variables) t (omega arith))
 
--- the part of the table that is lent for ranking
-pub prefix-part : {t : List ℕ} {c : Counts} → HeldWell t c → c .variables ≡ length (take (c .variables) t)
-prefix-part {t} {c} h = let b = bounds (well-held h) in sym (length-take-le (c .variables) t (omega arith))
+pub prefix-short : {t : List ℕ} {c : Counts} → Held t c → length (take (c .variables) t) ≤ 1023
+prefix-short {t} {c} h = let b = bounds h in omega (arith, length-take-le (c .variables) t (omega arith))
 
-pub prefix-short : {t : List ℕ} {c : Counts} → HeldWell t c → length (take (c .variables) t) ≤ 1023
-prefix-short {t} {c} h = let b = bounds (well-held h) in omega (arith, length-take-le (c .variables) t (omega arith))
+-- the entry of a universal is not in it
+pub not-universal : {φ : Formula} {t : List ℕ} {c : Counts} → Holds φ t c → (a : ℕ) (r : Bool) → r ≡ has (2 * a + 1) (take (c .variables) t) → r ≡ false
+    → universal (φ .prefix) a ≡ false
+unfolding universal
+not-universal h a r is e = ap (has (2 * a + 1)) (sym (prefix-is h)) ∙ sym is ∙ e

@@ -10,20 +10,21 @@ use Rattle.meaning.specs.Lists.{anyOf}
 use Rattle.meaning.specs.Formula.{Formula}
 use Rattle.meaning.specs.Game.{emptyClause, noClause}
 use Rattle.meaning.specs.WellFormed.{wellFormed, fits}
-use Rattle.rules.specs.Simplify.{subsumePermitted}
 use Rattle.rules.specs.Entry.{Kind, unit, pure, subsume, strengthen, equality, resolve, expand, usesB, entry}
-use Rattle.rules.specs.Step.{permitted}
+use Rattle.rules.specs.Step.{permitted, resultOf}
 use Rattle.rules.specs.Choice.{Found, none, found, costly, light, wanted, allowedCall, blockedCall, firsts, seconds, candidate, kinds, anyBlocked, stuck, takeFound, chooseOf, choose}
 use Rattle.rules.specs.Run as rules
 use Rattle.rules.specs.Run.{over, step, isTRUE, isFALSE}
-use Rattle.rules.proofs.Choose.{find-found, find-none, fields-of}
+use Rattle.rules.proofs.Permitted.{allowed-wanted, wanted-permitted}
+use Rattle.rules.proofs.Choose.{find-found, fields-of}
 use Rattle.rules.proofs.Search.{found-lightest}
 use Rattle.search.specs.Candidates.{foundAs}
 use Rattle.search.specs.declared.Found as search
 use Rattle.search.specs.declared.Found.the-variants.{Nothing, Pair}
-use Rattle.weigh.specs.Weights.{NoneSubsumed}
+use Rattle.search.specs.Quiet.{QuietTo}
 use Rattle.meaning.proofs.Basics.{by-cases, or-false}
-use Rattle.choice.specs.Chosen.{endAs, nextAs, bestAs, anyOfKind, bestOf, kindsAfter, chosenFrom, stuckAs}
+use Rattle.choice.specs.Chosen.{endAs, nextAs, bestAs, anyOfKind, bestOf, kindsAfter, stuckAs, nextFrom, QuietAfter, ChosenAs}
+use Rattle.choice.specs.declared.Chosen.{Chosen}
 use Rattle.choice.specs.declared.Next.{Next}
 use Rattle.choice.specs.declared.Next.the-variants.{Step}
 use Rattle.choice.specs.declared.Best.{Best}
@@ -50,13 +51,19 @@ unfolding bestAs
 none-is none room too e = (refl, cc)
 none-is (found c d) room too e = let z : _≡_ {A = ℕ} 0 1 = cc in absurd (omega arith)
 
+-- a step that the run takes next: n is its entry, and the first q clauses of its result are quiet
+taken : (φ : Formula) (x : rules.Next) (k : Kind) (a b : ℕ) → x ≡ step k a b → (n : ℕ) → n ≡ entry k a b → (q : ℕ) → QuietTo (resultOf φ k a b) q
+    → ChosenAs φ x (record { next = Step n; quiet = q })
+unfolding nextAs
+taken φ x k a b e n h q s = rw e (record { next = ap Step h; quiet = s })
+
 module _ (E : ℕ) (φ : Formula) (k : Kind) where
-  found-next : (a b : ℕ) → candidate E φ k ≡ found a b → Step (entry k a b) ≡ chosenFrom E φ k
-  unfolding chosenFrom chooseOf takeFound rules.nextOf nextAs
+  found-next : (a b : ℕ) → candidate E φ k ≡ found a b → nextFrom E φ k ≡ step k a b
+  unfolding nextFrom chooseOf takeFound rules.nextOf
   found-next a b e = rw e
 
-  none-next : candidate E φ k ≡ none → nextAs (rules.nextOf (chooseOf E φ (kindsAfter k))) ≡ chosenFrom E φ k
-  unfolding chosenFrom chooseOf takeFound
+  none-next : candidate E φ k ≡ none → rules.nextOf (chooseOf E φ (kindsAfter k)) ≡ nextFrom E φ k
+  unfolding nextFrom chooseOf takeFound
   none-next e = rw e
 
   -- a and b fit into an entry
@@ -69,23 +76,19 @@ module _ (E : ℕ) (φ : Formula) (k : Kind) (r : search.Found) (is : r ≡ foun
   pub pair-small : fits φ ≡ true → (a b : ℕ) → r ≡ Pair a b → (a < 2048) × (b < 2048)
   pair-small fit a b e = small E φ k fit a b (pair-is (candidate E φ k) a b (sym e ∙ is))
 
-  pub pair-next : (a b : ℕ) → r ≡ Pair a b → (n : ℕ) → n ≡ entry k a b → Step n ≡ chosenFrom E φ k
-  pair-next a b e n h = ap Step h ∙ found-next E φ k a b (pair-is (candidate E φ k) a b (sym e ∙ is))
+  pub pair-permitted : (a b : ℕ) → r ≡ Pair a b → permitted φ k a b ≡ true
+  pair-permitted a b e =
+      wanted-permitted E φ k a b (allowed-wanted E φ k a b (find-found E φ k a b (pair-is (candidate E φ k) a b (sym e ∙ is)) .counts))
+
+  pub pair-next : (a b : ℕ) → r ≡ Pair a b → (n : ℕ) → n ≡ entry k a b → (q : ℕ) → QuietTo (resultOf φ k a b) q
+      → ChosenAs φ (nextFrom E φ k) (record { next = Step n; quiet = q })
+  pair-next a b e = taken φ (nextFrom E φ k) k a b (found-next E φ k a b (pair-is (candidate E φ k) a b (sym e ∙ is)))
 
   pub nothing-found : r ≡ Nothing → candidate E φ k ≡ none
   nothing-found e = nothing-is (candidate E φ k) (sym e ∙ is)
 
-  pub nothing-next : r ≡ Nothing → (x : Next) → x ≡ nextAs (rules.nextOf (chooseOf E φ (kindsAfter k))) → x ≡ chosenFrom E φ k
-  nothing-next e x h = h ∙ none-next E φ k (nothing-found e)
-
--- no candidate of kind 3: no clause is a part of another
-pub none-subsumed : (E : ℕ) (φ : Formula) → candidate E φ subsume ≡ none → NoneSubsumed φ
-unfolding allowedCall wanted light costly permitted usesB
-none-subsumed E φ h a b = and-true (subsumePermitted φ a b) (and-true (subsumePermitted φ a b && true) (find-none E φ subsume h a b refl))
-  where
-    and-true : (x : Bool) → (x && true) ≡ false → x ≡ false
-    and-true true e = e
-    and-true false e = refl
+  pub nothing-next : r ≡ Nothing → (x : Chosen) → ChosenAs φ (rules.nextOf (chooseOf E φ (kindsAfter k))) x → ChosenAs φ (nextFrom E φ k) x
+  nothing-next e x h = rw (none-next E φ k (nothing-found e)) at h
 
 -- Kinds 6 and 7 ------------------------------------------------------------------------------------------------
 module _ (E : ℕ) (φ : Formula) (k : Kind) (r : Best) (is : r ≡ bestOf E φ k) where
@@ -97,19 +100,21 @@ module _ (E : ℕ) (φ : Formula) (k : Kind) (r : Best) (is : r ≡ bestOf E φ 
   best-small fit a e = let f = best-found a e in small E φ k fit a (f .0) (f .1) .0
 
   -- its b is 0
-  pub best-next : costly k ≡ true → (a : ℕ) → r ≡ best.Lightest a → (n : ℕ) → n ≡ entry k a 0 → Step n ≡ chosenFrom E φ k
+  pub best-next : costly k ≡ true → (a : ℕ) → r ≡ best.Lightest a → (n : ℕ) → n ≡ entry k a 0 → (q : ℕ) → QuietTo (resultOf φ k a 0) q
+      → ChosenAs φ (nextFrom E φ k) (record { next = Step n; quiet = q })
   unfolding candidate
-  best-next dear a e n h =
+  best-next dear a e =
       let f = best-found a e in
       let z : f .0 ≡ 0 = found-lightest _ _ _ a (f .0) (rw dear at (f .1)) .no-b in
-      ap Step h ∙ found-next E φ k a 0 (f .1 ∙ ap (found a) z)
+      taken φ (nextFrom E φ k) k a 0 (found-next E φ k a 0 (f .1 ∙ ap (found a) z))
 
   pub best-none : (too : Bool) → r ≡ best.Nothing too → (candidate E φ k ≡ none) × (too ≡ anyOfKind E φ k)
   unfolding bestOf
   best-none too e = none-is (candidate E φ k) (anyOfKind E φ k) too (sym e ∙ is)
 
-  pub best-later : (too : Bool) → r ≡ best.Nothing too → (x : Next) → x ≡ nextAs (rules.nextOf (chooseOf E φ (kindsAfter k))) → x ≡ chosenFrom E φ k
-  best-later too e x h = h ∙ none-next E φ k (best-none too e .0)
+  pub best-later : (too : Bool) → r ≡ best.Nothing too → (x : Chosen) → ChosenAs φ (rules.nextOf (chooseOf E φ (kindsAfter k))) x
+      → ChosenAs φ (nextFrom E φ k) x
+  best-later too e x h = rw (none-next E φ k (best-none too e .0)) at h
 
 -- "OUT OF ROOM exactly if a kind 6 or 7 step failed only for room" ----------------------------------------------
 any-never : {A : Type 0} (f : A → Bool) (l : List A) → ((x : A) → f x ≡ false) → anyOf f l ≡ false
@@ -136,9 +141,17 @@ module _ (E : ℕ) (φ : Formula) where
   blocked-is =
       sym (rw (free unit refl, free pure refl, free subsume refl, free strengthen refl, free equality refl, dear resolve refl, dear expand refl) (ap (λ x. anyOfKind E φ resolve || x) (or-false (anyOfKind E φ expand))))
 
-  pub stuck-next : (room too : Bool) → room ≡ anyOfKind E φ resolve → too ≡ anyOfKind E φ expand → (x : Next) → x ≡ stuckAs (room || too) → x ≡ nextAs (rules.nextOf (chooseOf E φ (kindsAfter expand)))
+  over-quiet : (b : Bool) → QuietAfter φ (rules.nextOf (stuck b)) 0
+  unfolding rules.nextOf
+  over-quiet true = tt
+  over-quiet false = tt
+
+  pub stuck-next : (room too : Bool) → room ≡ anyOfKind E φ resolve → too ≡ anyOfKind E φ expand → (x : Next) → x ≡ stuckAs (room || too)
+      → ChosenAs φ (rules.nextOf (chooseOf E φ (kindsAfter expand))) (record { next = x; quiet = 0 })
   unfolding stuckAs chooseOf kindsAfter
-  stuck-next room too d e x h = h ∙ ap (λ b. nextAs (rules.nextOf (stuck b))) (rw (d, e) blocked-is)
+  stuck-next room too d e x h =
+      let b : (room || too) ≡ anyBlocked E φ = rw (d, e) blocked-is in
+      record { next = h ∙ ap (λ (y : Bool). nextAs (rules.nextOf (stuck y))) b; quiet = over-quiet (anyBlocked E φ) }
 
 -- no clause, by their number
 no-clause : (cs : List (List ℕ)) → length cs ≡ 0 → noClause cs ≡ true
@@ -153,14 +166,14 @@ some-clause (c ∷ cs) h = refl
 
 module _ (E : ℕ) (φ : Formula) where
   -- At each point ------------------------------------------------------------------------------------------------
-  pub next-false : emptyClause (φ .clauses) ≡ true → nextAs (over isFALSE) ≡ nextAs (rules.next E φ)
+  pub next-false : emptyClause (φ .clauses) ≡ true → ChosenAs φ (rules.next E φ) (record { next = nextAs (over isFALSE); quiet = 0 })
   unfolding rules.next
-  next-false e = rw e
+  next-false e = rw e (record { next = refl; quiet = tt })
 
-  pub next-true : emptyClause (φ .clauses) ≡ false → length (φ .clauses) ≡ 0 → nextAs (over isTRUE) ≡ nextAs (rules.next E φ)
+  pub next-true : emptyClause (φ .clauses) ≡ false → length (φ .clauses) ≡ 0 → ChosenAs φ (rules.next E φ) (record { next = nextAs (over isTRUE); quiet = 0 })
   unfolding rules.next
-  next-true e h = rw (e, no-clause (φ .clauses) h)
+  next-true e h = rw (e, no-clause (φ .clauses) h) (record { next = refl; quiet = tt })
 
-  pub next-chosen : emptyClause (φ .clauses) ≡ false → (length (φ .clauses) ≡ 0 → ⊥) → chosenFrom E φ unit ≡ nextAs (rules.next E φ)
-  unfolding rules.next chosenFrom kindsAfter choose
+  pub next-chosen : emptyClause (φ .clauses) ≡ false → (length (φ .clauses) ≡ 0 → ⊥) → nextFrom E φ unit ≡ rules.next E φ
+  unfolding rules.next nextFrom kindsAfter choose
   next-chosen e h = rw (e, some-clause (φ .clauses) h)

@@ -1,6 +1,6 @@
 -- What stays quiet after a step: the clauses that it leaves as they were, as far as they stand among the first.
 -- Assumes nothing.
-use Prim.Native.Nat.{ℕ, zero, suc, _+_, _-_, _*_, _≤_, _<_}
+use Prim.Native.Nat.{ℕ, zero, suc, _+_, _-_, _*_, _≤_, _<_, min}
 use mathlib.Core.Path.{_≡_, refl, sym, ap, ap₂, _∙_}
 use mathlib.Core.Bool.{Bool, true, false, _&&_, _||_, not, cond}
 use mathlib.Core.List.{List, [], _∷_, _++_, map, append-nil}
@@ -17,6 +17,7 @@ use Rattle.rules.specs.Simplify.{clauseAt, isClause, withoutLit, assign, become
 use Rattle.rules.specs.Eliminate.{withLit, withoutVar, resolventsOf, resolvents, resolveRaw}
 use Rattle.rules.specs.Entry.{pure, subsume, strengthen, resolve}
 use Rattle.rules.specs.Step.{rawOf, resultOf}
+use Rattle.index.specs.Index.{clausesWith}
 use Rattle.search.specs.Candidates.{someStrengthens}
 use Rattle.search.specs.Quiet.{Quiet, QuietTo}
 use Rattle.weigh.specs.Resolving.{restOf, stayOf, rawResolvents, pairs, resolvedTo}
@@ -138,14 +139,15 @@ gone-distinct (c ∷ cs) (suc b) h =
     (λ k. clash (gone-any (same c) cs b k) (not-true (anyOf (same c) cs) (and-l (not (anyOf (same c) cs)) (distinct cs) h)))))
     (gone-distinct cs b (and-r (not (anyOf (same c) cs)) (distinct cs) h))
 
-pub quiet-subsume : (φ : Formula) → wellFormed φ ≡ true → (a b m : ℕ) → QuietTo φ m → QuietTo (resultOf φ subsume a b) (m - 1)
+pub quiet-subsume : (φ : Formula) → wellFormed φ ≡ true → (a b m : ℕ) → QuietTo φ m → (n : ℕ) → n ≡ m - 1 → QuietTo (resultOf φ subsume a b) n
 unfolding QuietTo resultOf rawOf tidied subsumeRaw
-quiet-subsume φ w a b m q =
+quiet-subsume φ w a b m q n e =
     let cs = replaceAt (φ .clauses) b [] in
-    let well : wellFormed (record { prefix = φ .prefix; clauses = cs }) ≡ true = unfold wellFormed in
+    let well : wellFormed (record { prefix = φ .prefix; clauses = cs }) ≡ true =
+    unfold wellFormed in
     rw (good-of φ w, gone-all (tidyClause (φ .prefix)) (φ .clauses) b (tidy-of φ w)) (gone-distinct (φ .clauses) b (distinct-of φ w)) in
     rw (build-same (record { prefix = φ .prefix; clauses = cs }) well)
-    (quiet-fewer (λ v e. e) (λ x h. gone-first (same x) (φ .clauses) b (m - 1) m (omega arith) h) q)
+    (quiet-fewer (λ v k. k) (λ x h. gone-first (same x) (φ .clauses) b n m (omega arith) h) q)
 
 -- Kind 4: the clauses before the one that is shortened stay -----------------------------------------------------------
 replace-is : (cs : List (List ℕ)) (b : ℕ) (new : List (List ℕ)) → b < length cs → replaceAt cs b new ≡ take b cs ++ (new ++ drop (suc b) cs)
@@ -189,17 +191,21 @@ replaced-first φ w b there new n k =
     ∙ build-first p (take b cs) rest n (omega (arith, length-take-le b cs (omega arith)))
     ∙ take-take n b cs k
 
-pub quiet-strengthen : (φ : Formula) → wellFormed φ ≡ true → (a b : ℕ) → strengthenPermitted φ a b ≡ true → (m n : ℕ) → n ≤ m → n ≤ b
-    → QuietTo φ m → QuietTo (resultOf φ strengthen a b) n
+pub quiet-strengthen : (φ : Formula) → wellFormed φ ≡ true → (a b : ℕ) → strengthenPermitted φ a b ≡ true → (m : ℕ) → QuietTo φ m
+    → (n : ℕ) → n ≡ min m b → QuietTo (resultOf φ strengthen a b) n
 unfolding QuietTo resultOf rawOf tidied strengthenRaw isClause
-quiet-strengthen φ w a b h m n l k q =
-    rw (replaced-first φ w b (ltb-true b (length (φ .clauses)) (strengthen-says φ a b h .there-b)) _ n k)
-    (quiet-fewer (λ v e. e) (λ x y. first-more (same x) n m (φ .clauses) l y) q)
+quiet-strengthen φ w a b h m q n e =
+    rw (replaced-first φ w b (ltb-true b (length (φ .clauses)) (strengthen-says φ a b h .there-b)) _ n (omega arith))
+    (quiet-fewer (λ v k. k) (λ x i. first-more (same x) n m (φ .clauses) (omega arith) i) q)
 
 -- Kinds 2 and 6: the clauses without the variable stay ----------------------------------------------------------------
 -- how many go
-abbrev pub goneWith : Formula → ℕ → ℕ
+abbrev goneWith : Formula → ℕ → ℕ
 goneWith φ a = length (withLit (plain a) (φ .clauses)) + length (withLit (negated a) (φ .clauses))
+
+gone-is : (φ : Formula) (a : ℕ) → length (clausesWith (φ .clauses) (2 * a)) + length (clausesWith (φ .clauses) (2 * a + 1)) ≡ goneWith φ a
+unfolding plain negated withLit
+gone-is φ a = omega (arith, with-length (φ .clauses) (2 * a), with-length (φ .clauses) (2 * a + 1))
 
 -- a literal that does not occur
 none-with : (l : ℕ) (cs : List (List ℕ)) → occurs l cs ≡ false → withLit l cs ≡ []
@@ -273,14 +279,31 @@ module _ (φ : Formula) (w : wellFormed φ ≡ true) (a m : ℕ) (q : QuietTo φ
       quiet-fewer (drop-exists a (φ .prefix))
       (λ x h. keep-first (same x) (λ c. not (mentions c a)) (φ .clauses) n m (omega (arith, stay-clauses φ w a)) h) q
 
-  -- the resolvents are put behind them
-  pub quiet-resolve : (n : ℕ) → n ≤ m - goneWith φ a → n ≤ length (stayOf φ a) → QuietTo (resultOf φ resolve a 0) n
+  quiet-resolved : (n : ℕ) → n ≤ m - goneWith φ a → n ≤ length (stayOf φ a) → QuietTo (resultOf φ resolve a 0) n
   unfolding QuietTo resolvedTo
-  quiet-resolve n l k =
+  quiet-resolved n l k =
       rw (result-is φ w a, build-first (restOf φ a) (stayOf φ a) (take (pairs φ a) (rawResolvents φ a)) n k) (quiet-stay n l)
 
-  pub quiet-pure : purePermitted φ a ≡ true → (universal (φ .prefix) a ≡ true → goneWith φ a ≡ 0) → QuietTo (resultOf φ pure a 0) (m - goneWith φ a)
+  quiet-lone : purePermitted φ a ≡ true → (universal (φ .prefix) a ≡ true → goneWith φ a ≡ 0) → (n : ℕ) → n ≤ m - goneWith φ a
+      → QuietTo (resultOf φ pure a 0) n
   unfolding QuietTo resolvedTo buildOn
-  quiet-pure h u =
+  quiet-lone h u n l =
       let one = pure-says φ a h .one-phase in
-      rw (pure-is-resolved φ a one u, result-is φ w a, no-pairs φ a one u, take-nil (pairs φ a)) (quiet-stay (m - goneWith φ a) (omega arith))
+      rw (pure-is-resolved φ a one u, result-is φ w a, no-pairs φ a one u, take-nil (pairs φ a)) (quiet-stay n l)
+
+  -- kind 2: x and y clauses have the two literals
+  module _ (h : purePermitted φ a ≡ true) (x y : ℕ) (is-x : x ≡ length (clausesWith (φ .clauses) (2 * a)))
+      (is-y : y ≡ length (clausesWith (φ .clauses) (2 * a + 1))) where
+    pub quiet-absent : x + y ≡ 0 → QuietTo (resultOf φ pure a 0) m
+    quiet-absent z = quiet-lone h (λ u. omega (arith, gone-is φ a)) m (omega (arith, gone-is φ a))
+
+    pub quiet-pure : universal (φ .prefix) a ≡ false → (n : ℕ) → n ≡ m - (x + y) → QuietTo (resultOf φ pure a 0) n
+    quiet-pure u n e = quiet-lone h (λ v. clash v u) n (omega (arith, gone-is φ a))
+
+-- kind 6: the resolvents are put behind the clauses that stay. s are the clauses with the variable
+pub quiet-resolve : (φ : Formula) → wellFormed φ ≡ true → (a m : ℕ) → QuietTo φ m → m ≡ length (φ .clauses) → (s : List ℕ)
+    → s ≡ clausesWith (φ .clauses) (2 * a) ++ clausesWith (φ .clauses) (2 * a + 1) → (n : ℕ) → n ≡ m - length s → QuietTo (resultOf φ resolve a 0) n
+quiet-resolve φ w a m q k s is n e =
+    let g = gone-is φ a in
+    let l = ap length is ∙ length-append (clausesWith (φ .clauses) (2 * a)) (clausesWith (φ .clauses) (2 * a + 1)) in
+    quiet-resolved φ w a m q n (omega arith) (omega (arith, stay-clauses φ w a))

@@ -9,6 +9,7 @@ use Rattle.meaning.specs.Formula.{Formula}
 use Rattle.meaning.specs.Game.{emptyClause}
 use Rattle.meaning.specs.WellFormed.{weight, wellFormed}
 use Rattle.rules.specs.Entry.{Kind, unit, pure, subsume, strengthen, equality, resolve, expand, entry}
+use Rattle.rules.specs.Step.{resultOf}
 use Rattle.rules.specs.Choice.{Found, none, found, blockedCall, firsts, candidate, stuck, chooseOf}
 use Rattle.rules.specs.Run as rules
 use Rattle.rules.specs.Run.{isTRUE, isFALSE, finished, outOfRoom, over, step}
@@ -16,6 +17,7 @@ use Rattle.table.specs.Table.{Holds}
 use Rattle.table.specs.Ranks.{ranksOf}
 use Rattle.table.specs.declared.Counts.{Counts}
 use Rattle.index.specs.Study.{Studied}
+use Rattle.search.specs.Quiet.{QuietTo}
 use Rattle.weigh.specs.Weights.{weighedStep, NoneSubsumed}
 use Rattle.weigh.specs.declared.Weighed.{Weighed}
 use Rattle.weigh.specs.declared.Weighed.the-variants.{Over, Fitting, Wide}
@@ -23,6 +25,7 @@ use Rattle.choice.specs.declared.End.{End}
 use Rattle.choice.specs.declared.End.the-variants as end
 use Rattle.choice.specs.declared.Next.{Next}
 use Rattle.choice.specs.declared.Next.the-variants as next
+use Rattle.choice.specs.declared.Chosen.{Chosen}
 use Rattle.choice.specs.declared.Best.{Best}
 use Rattle.choice.specs.declared.Best.the-variants.{Nothing, Lightest}
 use Rattle.choice.specs.declared.Standing.{Standing}
@@ -88,27 +91,56 @@ kindsAfter resolve = expand ∷ []
 kindsAfter expand = []
 
 -- what the run does next where no kind before k has a candidate
-unfoldable pub chosenFrom : ℕ → Formula → Kind → Next
-chosenFrom E φ k = nextAs (rules.nextOf (chooseOf E φ (k ∷ kindsAfter k)))
+unfoldable pub nextFrom : ℕ → Formula → Kind → rules.Next
+nextFrom E φ k = rules.nextOf (chooseOf E φ (k ∷ kindsAfter k))
+
+-- the first n clauses of what comes of it are quiet
+abbrev pub QuietAfter : Formula → rules.Next → ℕ → Type 0
+QuietAfter φ (over e) n = Unit {0}
+QuietAfter φ (step k a b) n = QuietTo (resultOf φ k a b) n
+
+-- the code's answer, where the run does x next
+pub record ChosenAs (φ : Formula) (x : rules.Next) (r : Chosen) : Type 0 where
+  pub next : r .next ≡ nextAs x
+  pub quiet : QuietAfter φ x (r .quiet)
 
 unfoldable pub stuckAs : Bool → Next
 stuckAs room = nextAs (rules.nextOf (stuck room))
 
 -- What is at hand, kind by kind --------------------------------------------------------------------------------
+-- at the start: the first m clauses are quiet
+pub record HeldQuiet (t : List ℕ) (c : Counts) (m : ℕ) : Type 0 where
+  pub formula : Formula
+  pub holds : Holds formula t c
+  pub well : wellFormed formula ≡ true
+  pub quiet : QuietTo formula m
+
 -- for kinds 1 and 2: no clause is empty
-pub record Unsettled (t : List ℕ) (c : Counts) : Type 0 where
+pub record Unsettled (t : List ℕ) (c : Counts) (m : ℕ) : Type 0 where
   pub formula : Formula
   pub holds : Holds formula t c
   pub well : wellFormed formula ≡ true
   pub no-empty : emptyClause (formula .clauses) ≡ false
+  pub quiet : QuietTo formula m
 
 -- for kind 3 the same, with the index
-pub record Busy (t : List ℕ) (c : Counts) (ranks index : List ℕ) : Type 0 where
+pub record Busy (t : List ℕ) (c : Counts) (ranks index : List ℕ) (m : ℕ) : Type 0 where
   pub formula : Formula
   pub studied : Studied formula t c ranks index
   pub no-empty : emptyClause (formula .clauses) ≡ false
+  pub quiet : QuietTo formula m
 
--- for kinds 4 to 6: no clause is a part of another
+-- for kind 4: no clause is a part of another
+pub record Unsubsumed (t : List ℕ) (c : Counts) (ranks index : List ℕ) (m : ℕ) : Type 0 where
+  pub formula : Formula
+  pub studied : Studied formula t c ranks index
+  pub apart : NoneSubsumed formula
+  pub quiet : QuietTo formula m
+
+-- for kinds 5 and 6 the same, and all clauses are quiet
+abbrev pub AllQuiet : Formula → Type 0
+AllQuiet φ = (m : ℕ) → QuietTo φ m
+
 pub record Apart (t : List ℕ) (c : Counts) (ranks index : List ℕ) : Type 0 where
   pub formula : Formula
   pub studied : Studied formula t c ranks index

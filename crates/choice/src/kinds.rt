@@ -6,19 +6,25 @@ ghost use lib.ListN.{length};
 ghost use Rattle.meaning.specs.Formula.{Formula};
 ghost use Rattle.meaning.specs.Game.{emptyClause};
 ghost use Rattle.meaning.specs.WellFormed.{wellFormed};
+ghost use Rattle.rules.specs.Step.{resultOf};
 ghost use Rattle.rules.specs.Entry.{Kind, unit, pure, subsume, strengthen, equality, resolve, expand, code, entry};
 ghost use Rattle.rules.specs.Run as rules;
 ghost use Rattle.table.specs.Table.{tableOf, emptyFormula, Holds};
 ghost use Rattle.index.specs.Study.{Studied};
-ghost use Rattle.index.specs.Build.{HeldWell};
+ghost use Rattle.search.specs.Quiet.{QuietTo};
 ghost use Rattle.weigh.specs.Weights.{NoneSubsumed};
-ghost use Rattle.choice.specs.Chosen.{nextAs, anyOfKind, chosenFrom, stuckAs, Unsettled, Busy, Apart, Ranks, Ranked};
+ghost use Rattle.choice.specs.Chosen.{nextAs, anyOfKind, stuckAs, nextFrom, ChosenAs, AllQuiet, HeldQuiet, Unsettled, Busy, Unsubsumed, Apart, Ranks, Ranked};
 use crate::Best;
+use crate::Chosen;
 use crate::End;
 use crate::Next;
 use crate::lightest::best_expand;
 use crate::lightest::best_resolve;
+use crate::quiet::less;
+use crate::quiet::lower;
+use crate::quiet::quiet_without;
 use index::build_index;
+use index::clauses_of;
 use index::put_tally;
 use permits::entry_of;
 use search::Found;
@@ -45,111 +51,159 @@ fn stuck(room: bool, too: bool) -> Next
     Next::Over(End::Finished)
 }
 
-fn choose_expand(t: &[u16], c: Counts, ranks: &[u16], allowance: usize, room: bool) -> Next
+fn choose_expand(t: &[u16], c: Counts, ranks: &[u16], allowance: usize, room: bool) -> Chosen
     requires { ⌜ Ranked (now t) c (now ranks) × (allowance ≤ 1000) ⌝ }
-    ensures { λ r. ⌜ ((φ : Formula) → Ranks φ (now (t .entry)) c (now (ranks .entry)) → room ≡ anyOfKind allowance φ resolve → r ≡ chosenFrom allowance φ expand) ⌝ }
+    ensures { λ r. ⌜ ((φ : Formula) → Ranks φ (now (t .entry)) c (now (ranks .entry)) → room ≡ anyOfKind allowance φ resolve → ChosenAs φ (nextFrom allowance φ expand) r) ⌝ }
 {
     match best_expand(t, c, ranks, allowance) {
-        Best::Lightest(a) => Next::Step(entry_of(7, a, 0)),
-        Best::Nothing(too) => stuck(room, too),
+        Best::Lightest(a) => Chosen {
+            next: Next::Step(entry_of(7, a, 0)),
+            quiet: 0,
+        },
+        Best::Nothing(too) => Chosen {
+            next: stuck(room, too),
+            quiet: 0,
+        },
     }
 }
 
-fn choose_resolve(t: &[u16], c: Counts, ranks: &[u16], index: &[u16], allowance: usize) -> Next
+// No clause with a stays, and the resolvents are put behind the clauses that do.
+fn choose_resolve(t: &[u16], c: Counts, ranks: &[u16], index: &[u16], allowance: usize) -> Chosen
     requires { ⌜ Apart (now t) c (now ranks) (now index) × (allowance ≤ 1000) ⌝ }
-    ensures { λ r. ⌜ ((φ : Formula) → Studied φ (now (t .entry)) c (now (ranks .entry)) (now (index .entry)) → NoneSubsumed φ → r ≡ chosenFrom allowance φ resolve) ⌝ }
+    ensures { λ r. ⌜ ((φ : Formula) → Studied φ (now (t .entry)) c (now (ranks .entry)) (now (index .entry)) → NoneSubsumed φ → AllQuiet φ → ChosenAs φ (nextFrom allowance φ resolve) r) ⌝ }
 {
     match best_resolve(t, c, ranks, index) {
-        Best::Lightest(a) => Next::Step(entry_of(6, a, 0)),
+        Best::Lightest(a) => Chosen {
+            next: Next::Step(entry_of(6, a, 0)),
+            quiet: less(c.clauses, clauses_of(index, a as u16).len()),
+        },
         Best::Nothing(room) => choose_expand(t, c, ranks, allowance, room),
     }
 }
 
-fn choose_equality(t: &[u16], c: Counts, ranks: &[u16], index: &[u16], allowance: usize) -> Next
+fn choose_equality(t: &[u16], c: Counts, ranks: &[u16], index: &[u16], allowance: usize) -> Chosen
     requires { ⌜ Apart (now t) c (now ranks) (now index) × (allowance ≤ 1000) ⌝ }
-    ensures { λ r. ⌜ ((φ : Formula) → Studied φ (now (t .entry)) c (now (ranks .entry)) (now (index .entry)) → NoneSubsumed φ → r ≡ chosenFrom allowance φ equality) ⌝ }
+    ensures { λ r. ⌜ ((φ : Formula) → Studied φ (now (t .entry)) c (now (ranks .entry)) (now (index .entry)) → NoneSubsumed φ → AllQuiet φ → ChosenAs φ (nextFrom allowance φ equality) r) ⌝ }
 {
     match find_equality(t, c, index) {
-        Found::Pair(a, b) => Next::Step(entry_of(5, a, b)),
+        Found::Pair(a, b) => Chosen {
+            next: Next::Step(entry_of(5, a, b)),
+            quiet: 0,
+        },
         Found::Nothing => choose_resolve(t, c, ranks, index, allowance),
     }
 }
 
-fn choose_strengthen(t: &[u16], c: Counts, ranks: &[u16], index: &[u16], allowance: usize) -> Next
-    requires { ⌜ Apart (now t) c (now ranks) (now index) × (allowance ≤ 1000) ⌝ }
-    ensures { λ r. ⌜ ((φ : Formula) → Studied φ (now (t .entry)) c (now (ranks .entry)) (now (index .entry)) → NoneSubsumed φ → r ≡ chosenFrom allowance φ strengthen) ⌝ }
+// The clauses before b stay as they were.
+fn choose_strengthen(
+    t: &[u16],
+    c: Counts,
+    ranks: &[u16],
+    index: &[u16],
+    allowance: usize,
+    quiet: usize,
+) -> Chosen
+    requires { ⌜ Unsubsumed (now t) c (now ranks) (now index) quiet × (allowance ≤ 1000) ⌝ }
+    ensures { λ r. ⌜ ((φ : Formula) → Studied φ (now (t .entry)) c (now (ranks .entry)) (now (index .entry)) → NoneSubsumed φ → QuietTo φ quiet → ChosenAs φ (nextFrom allowance φ strengthen) r) ⌝ }
 {
-    match find_strengthen(t, c, ranks, index) {
-        Found::Pair(a, b) => Next::Step(entry_of(4, a, b)),
+    match find_strengthen(t, c, ranks, index, quiet) {
+        Found::Pair(a, b) => Chosen {
+            next: Next::Step(entry_of(4, a, b)),
+            quiet: lower(quiet, b),
+        },
         Found::Nothing => choose_equality(t, c, ranks, index, allowance),
     }
 }
 
-fn choose_subsume(t: &[u16], c: Counts, ranks: &[u16], index: &[u16], allowance: usize) -> Next
-    requires { ⌜ Busy (now t) c (now ranks) (now index) × (allowance ≤ 1000) ⌝ }
-    ensures { λ r. ⌜ ((φ : Formula) → Studied φ (now (t .entry)) c (now (ranks .entry)) (now (index .entry)) → emptyClause (φ .clauses) ≡ false → r ≡ chosenFrom allowance φ subsume) ⌝ }
+// One clause goes: at most one of the first.
+fn choose_subsume(
+    t: &[u16],
+    c: Counts,
+    ranks: &[u16],
+    index: &[u16],
+    allowance: usize,
+    quiet: usize,
+) -> Chosen
+    requires { ⌜ Busy (now t) c (now ranks) (now index) quiet × (allowance ≤ 1000) ⌝ }
+    ensures { λ r. ⌜ ((φ : Formula) → Studied φ (now (t .entry)) c (now (ranks .entry)) (now (index .entry)) → emptyClause (φ .clauses) ≡ false → QuietTo φ quiet → ChosenAs φ (nextFrom allowance φ subsume) r) ⌝ }
 {
-    match find_subsume(t, c, index) {
-        Found::Pair(a, b) => Next::Step(entry_of(3, a, b)),
-        Found::Nothing => choose_strengthen(t, c, ranks, index, allowance),
+    match find_subsume(t, c, index, quiet) {
+        Found::Pair(a, b) => Chosen {
+            next: Next::Step(entry_of(3, a, b)),
+            quiet: less(quiet, 1),
+        },
+        Found::Nothing => choose_strengthen(t, c, ranks, index, allowance, quiet),
     }
 }
 
 // From kind 3 on: the index goes into the spare table.
-fn choose_indexed(t: &[u16], c: Counts, spare: &mut [u16], allowance: usize) -> Next
-    requires { ⌜ Unsettled (now t) c × (length (now spare) ≡ 11261) × (allowance ≤ 1000) ⌝ }
-    ensures { λ r. ⌜ ((φ : Formula) → Holds φ (now (t .entry)) c → wellFormed φ ≡ true → emptyClause (φ .clauses) ≡ false → r ≡ chosenFrom allowance φ subsume) ⌝ }
+fn choose_indexed(t: &[u16], c: Counts, spare: &mut [u16], allowance: usize, quiet: usize) -> Chosen
+    requires { ⌜ Unsettled (now t) c quiet × (length (now spare) ≡ 11261) × (allowance ≤ 1000) ⌝ }
+    ensures { λ r. ⌜ ((φ : Formula) → Holds φ (now (t .entry)) c → wellFormed φ ≡ true → emptyClause (φ .clauses) ≡ false → QuietTo φ quiet → ChosenAs φ (nextFrom allowance φ subsume) r) ⌝ }
 {
     let n = c.variables;
     let mut ranks = [0u16; 1024];
     rank_prefix(&t[..n], &mut ranks);
     build_index(t, c, spare);
-    choose_subsume(t, c, &ranks, spare, allowance)
+    choose_subsume(t, c, &ranks, spare, allowance, quiet)
 }
 
 // Kind 2 needs no more than how often each literal stands in the clauses, so the index waits.
-fn choose_pure(t: &[u16], c: Counts, spare: &mut [u16], allowance: usize) -> Next
-    requires { ⌜ Unsettled (now t) c × (length (now spare) ≡ 11261) × (allowance ≤ 1000) ⌝ }
-    ensures { λ r. ⌜ ((φ : Formula) → Holds φ (now (t .entry)) c → wellFormed φ ≡ true → emptyClause (φ .clauses) ≡ false → r ≡ chosenFrom allowance φ pure) ⌝ }
+fn choose_pure(t: &[u16], c: Counts, spare: &mut [u16], allowance: usize, quiet: usize) -> Chosen
+    requires { ⌜ Unsettled (now t) c quiet × (length (now spare) ≡ 11261) × (allowance ≤ 1000) ⌝ }
+    ensures { λ r. ⌜ ((φ : Formula) → Holds φ (now (t .entry)) c → wellFormed φ ≡ true → emptyClause (φ .clauses) ≡ false → QuietTo φ quiet → ChosenAs φ (nextFrom allowance φ pure) r) ⌝ }
 {
     put_tally(t, c, spare);
     match find_pure(t, c, spare) {
-        Found::Pair(a, b) => Next::Step(entry_of(2, a, b)),
-        Found::Nothing => choose_indexed(t, c, spare, allowance),
+        Found::Pair(a, b) => Chosen {
+            next: Next::Step(entry_of(2, a, b)),
+            quiet: quiet_without(t, c, spare, a, quiet),
+        },
+        Found::Nothing => choose_indexed(t, c, spare, allowance, quiet),
     }
 }
 
-fn choose_unit(t: &[u16], c: Counts, spare: &mut [u16], allowance: usize) -> Next
-    requires { ⌜ Unsettled (now t) c × (length (now spare) ≡ 11261) × (allowance ≤ 1000) ⌝ }
-    ensures { λ r. ⌜ ((φ : Formula) → Holds φ (now (t .entry)) c → wellFormed φ ≡ true → emptyClause (φ .clauses) ≡ false → r ≡ chosenFrom allowance φ unit) ⌝ }
+fn choose_unit(t: &[u16], c: Counts, spare: &mut [u16], allowance: usize, quiet: usize) -> Chosen
+    requires { ⌜ Unsettled (now t) c quiet × (length (now spare) ≡ 11261) × (allowance ≤ 1000) ⌝ }
+    ensures { λ r. ⌜ ((φ : Formula) → Holds φ (now (t .entry)) c → wellFormed φ ≡ true → emptyClause (φ .clauses) ≡ false → QuietTo φ quiet → ChosenAs φ (nextFrom allowance φ unit) r) ⌝ }
 {
     match find_unit(t, c) {
-        Found::Pair(a, b) => Next::Step(entry_of(1, a, b)),
-        Found::Nothing => choose_pure(t, c, spare, allowance),
+        Found::Pair(a, b) => Chosen {
+            next: Next::Step(entry_of(1, a, b)),
+            quiet: 0,
+        },
+        Found::Nothing => choose_pure(t, c, spare, allowance, quiet),
     }
 }
 
 // "An empty clause, FALSE; no clause, TRUE; else" by the kinds.
-fn decide(t: &[u16], c: Counts, spare: &mut [u16], allowance: usize) -> Next
-    requires { ⌜ HeldWell (now t) c × (length (now spare) ≡ 11261) × (allowance ≤ 1000) ⌝ }
-    ensures { λ r. ⌜ ((φ : Formula) → Holds φ (now (t .entry)) c → wellFormed φ ≡ true → r ≡ nextAs (rules.next allowance φ)) ⌝ }
+fn decide(t: &[u16], c: Counts, spare: &mut [u16], allowance: usize, quiet: usize) -> Chosen
+    requires { ⌜ HeldQuiet (now t) c quiet × (length (now spare) ≡ 11261) × (allowance ≤ 1000) ⌝ }
+    ensures { λ r. ⌜ ((φ : Formula) → Holds φ (now (t .entry)) c → wellFormed φ ≡ true → QuietTo φ quiet → ChosenAs φ (rules.next allowance φ) r) ⌝ }
 {
     if is_present(t, c, &t[..0]) {
-        return Next::Over(End::False);
+        return Chosen {
+            next: Next::Over(End::False),
+            quiet: 0,
+        };
     }
     if c.clauses == 0 {
-        return Next::Over(End::True);
+        return Chosen {
+            next: Next::Over(End::True),
+            quiet: 0,
+        };
     }
-    choose_unit(t, c, spare, allowance)
+    choose_unit(t, c, spare, allowance, quiet)
 }
 
-// What the run does next. The spare table ends zero, whatever it held.
-pub fn choose(t: &[u16], c: Counts, spare: &mut [u16], allowance: usize) -> Next
-    requires { ⌜ HeldWell (now t) c × (length (now spare) ≡ 11261) × (allowance ≤ 1000) ⌝ }
-    ensures { λ r. ⌜ ((φ : Formula) → Holds φ (now (t .entry)) c → wellFormed φ ≡ true → r ≡ nextAs (rules.next allowance φ)) ⌝ }
+// What the run does next, where so many of the first clauses are quiet (0: nothing is known). The spare table ends zero, whatever it held.
+pub fn choose(t: &[u16], c: Counts, spare: &mut [u16], allowance: usize, quiet: usize) -> Chosen
+    requires { ⌜ HeldQuiet (now t) c quiet × (length (now spare) ≡ 11261) × (allowance ≤ 1000) ⌝ }
+    ensures { λ r. ⌜ ((φ : Formula) → Holds φ (now (t .entry)) c → wellFormed φ ≡ true → r .next ≡ nextAs (rules.next allowance φ)) ⌝ }
+    ensures { λ r. ⌜ ((φ : Formula) (k : Kind) (a b : ℕ) → Holds φ (now (t .entry)) c → wellFormed φ ≡ true → rules.next allowance φ ≡ rules.step k a b → QuietTo (resultOf φ k a b) (r .quiet)) ⌝ }
     ensures { λ _. ⌜ now (spare .exit) ≡ tableOf emptyFormula ⌝ }
 {
-    let r = decide(t, c, spare, allowance);
+    let r = decide(t, c, spare, allowance, quiet);
     zero(spare);
     r
 }

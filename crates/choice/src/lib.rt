@@ -2,6 +2,7 @@
 mod ahead;
 mod kinds;
 mod lightest;
+mod quiet;
 
 pub use kinds::choose;
 
@@ -17,6 +18,12 @@ pub enum End {
 pub enum Next {
     Over(End),
     Step(u32),
+}
+
+// What the run does next, and how many of the first clauses of the result are known to be quiet: kinds 3 and 4 have no candidate among them.
+pub struct Chosen {
+    pub next: Next,
+    pub quiet: usize,
 }
 
 // Of the steps of kind 6 or 7: none counts, and whether one failed only for room; or the variable of the lightest.

@@ -16,6 +16,8 @@ use Rattle.rules.specs.Step.{resultOf, stepped, stepOf}
 use Rattle.rules.specs.Run.{End, isTRUE, isFALSE, finished, outOfRoom, ended, stopped, over, step, next, Ran, ranNothing, logged, halt, onward, runFrom}
 use Rattle.rules.proofs.Next.{Going, going}
 use Rattle.table.proofs.ListLaws.{tail-written}
+use Rattle.search.specs.Quiet.{QuietTo}
+use Rattle.search.proofs.QuietLaws.{quiet-none}
 use Rattle.choice.specs.Chosen.{endAs, nextAs}
 use Rattle.choice.specs.declared.Next.{Next}
 use Rattle.choice.specs.declared.Next.the-variants as says
@@ -35,10 +37,11 @@ use Rattle.course.specs.declared.Running.{Running}
 unfoldable pub withLog : List ℕ → Ran → Ran
 withLog es r = record { outcome = r .outcome; final = r .final; log = es ++ r .log }
 
--- n steps of the run from φ are done: ψ stands, the entries are in the log, and what is left makes the whole
-pub record Turns (φ : Formula) (E room : ℕ) (s : Bool) (log₀ a b log : List ℕ) (d : Counts) (n : ℕ) : Type 0 where
+-- n steps of the run from φ are done: ψ stands, its first m clauses are quiet, the entries are in the log, and what is left makes the whole
+pub record Turns (φ : Formula) (E room : ℕ) (s : Bool) (log₀ a b log : List ℕ) (d : Counts) (n m : ℕ) : Type 0 where
   pub formula : Formula
   pub here : Here formula (sideFrom s n) a b d
+  pub quiet : QuietTo formula m
   pub done : List ℕ
   pub count : length done ≡ n
   pub whole : runFrom E room φ ≡ withLog done (runFrom E (room - n) formula)
@@ -111,14 +114,21 @@ end-outcome outOfRoom = refl
 
 module _ (φ : Formula) (E room : ℕ) (s : Bool) (log₀ : List ℕ) where
   -- before the first
-  pub turns-start : {a b : List ℕ} {d : Counts} → Here φ s a b d → Turns φ E room s log₀ a b log₀ d 0
+  pub turns-start : {a b : List ℕ} {d : Counts} → Here φ s a b d → Turns φ E room s log₀ a b log₀ d 0 0
   unfolding sideFrom withLog logBytes
-  turns-start h = let z : room ≡ room - 0 = omega arith in record { formula = φ; here = h; done = []; count = refl; whole = ap (λ (m : ℕ). runFrom E m φ) z; written = refl }
+  turns-start h = let z : room ≡ room - 0 = omega arith in record { formula = φ; here = h; quiet = quiet-none φ; done = []; count = refl; whole = ap (λ (m : ℕ). runFrom E m φ) z; written = refl }
 
-  module _ {a b log : List ℕ} {d : Counts} {n : ℕ} (t : Turns φ E room s log₀ a b log d n) where
+  module _ {a b log : List ℕ} {d : Counts} {n m : ℕ} (t : Turns φ E room s log₀ a b log d n m) where
     -- the choice leaves the spare table zero
     pub turns-chosen : {a′ b′ : List ℕ} → Stands (t .formula) (d .second) a′ b′ → Here (t .formula) (sideFrom s n) a′ b′ d
     turns-chosen k = record { stands = rw (here-side (t .here)) at k; counts = t .here .counts; well = t .here .well; room = t .here .room }
+
+    -- no other formula stands there
+    same-here : {a′ b′ : List ℕ} → Here (t .formula) (sideFrom s n) a′ b′ d → (χ : Formula) → Lends χ a′ b′ d → t .formula ≡ χ
+    same-here k χ l = sym (decode-holds (t .formula) _ d (here-lends k .holds)) ∙ decode-holds χ _ d (l .holds)
+
+    pub turns-quiet : (χ : Formula) → Lends χ a b d → QuietTo χ m
+    turns-quiet χ l = rw (same-here (t .here) χ l) at (t .quiet)
 
     -- the step that is chosen is permitted
     pub turns-known : (e : ℕ) → says.Step e ≡ nextAs (next E (t .formula)) → {a′ b′ : List ℕ} → Here (t .formula) (sideFrom s n) a′ b′ d → (χ : Formula) → Lends χ a′ b′ d → Known χ e true
@@ -126,8 +136,7 @@ module _ (φ : Formula) (E room : ℕ) (s : Bool) (log₀ : List ℕ) where
         let ψ = t .formula in
         let p = step-is (next E ψ) e h in
         let g = going E ψ (t .here .well) (t .here .room) (p .kind) (p .a) (p .b) (p .is) in
-        let q : ψ ≡ χ = sym (decode-holds ψ _ d (here-lends k .holds)) ∙ decode-holds χ _ d (l .holds) in
-        λ y. rw q at (stepped-permitted ψ _ e (ap (stepOf ψ) (p .number) ∙ g .steps))
+        λ y. rw (same-here k χ l) at (stepped-permitted ψ _ e (ap (stepOf ψ) (p .number) ∙ g .steps))
 
     -- nothing more is done
     ends : (o : Rattle.rules.specs.Run.Outcome) → runFrom E (room - n) (t .formula) ≡ ranNothing o (t .formula) → (r : Running) → r ≡ record { outcome = outcomeAs o; counts = d; steps = n } → {a′ b′ : List ℕ} → Stands (t .formula) (sideFrom s n) a′ b′ → RanAs (runFrom E room φ) s log₀ r a′ b′ log
@@ -154,32 +163,34 @@ module _ (φ : Formula) (E room : ℕ) (s : Bool) (log₀ : List ℕ) where
     -- no step is left
     pub turns-stopped : (e : ℕ) → says.Step e ≡ nextAs (next E (t .formula)) → n ≡ room → {a′ b′ : List ℕ} → Stands (t .formula) (sideFrom s n) a′ b′ → RanAs (runFrom E room φ) s log₀ (record { outcome = Stopped; counts = d; steps = n }) a′ b′ log
     unfolding outcomeAs
-    turns-stopped e h z k =
+    turns-stopped e h l k =
         let p = step-is (next E (t .formula)) e h in
-        let m : room - n ≡ 0 = omega arith in
-        ends stopped (ap (λ (i : ℕ). runFrom E i (t .formula)) m ∙ run-stopped E (t .formula) (p .kind) (p .a) (p .b) (p .is)) (record { outcome = Stopped; counts = d; steps = n }) refl k
+        let z : room - n ≡ 0 = omega arith in
+        ends stopped (ap (λ (i : ℕ). runFrom E i (t .formula)) z ∙ run-stopped E (t .formula) (p .kind) (p .a) (p .b) (p .is)) (record { outcome = Stopped; counts = d; steps = n }) refl k
 
     -- one step more
-    pub turns-next : (e : ℕ) → says.Step e ≡ nextAs (next E (t .formula)) → n < room → {a′ b′ log′ : List ℕ} {d′ : Counts}
+    pub turns-next : (e : ℕ) → says.Step e ≡ nextAs (next E (t .formula)) → n < room → {a′ b′ log′ : List ℕ} {d′ : Counts} {m′ : ℕ}
+        → ((k : Kind) (x y : ℕ) → next E (t .formula) ≡ step k x y → QuietTo (resultOf (t .formula) k x y) m′)
         → ((χ : Formula) → stepOf (t .formula) e ≡ stepped χ → (d′ ≡ countsOf χ (not (d .second))) × Stands χ (not (d .second)) a′ b′)
-        → log′ ≡ take (4 * n) log ++ (entryBytes e ++ drop 4 (drop (4 * n) log)) → Turns φ E room s log₀ a′ b′ log′ d′ (n + 1)
+        → log′ ≡ take (4 * n) log ++ (entryBytes e ++ drop 4 (drop (4 * n) log)) → Turns φ E room s log₀ a′ b′ log′ d′ (n + 1) m′
     unfolding sideFrom withLog logged countsOf
-    turns-next e h l {a′} {b′} {log′} {d′} k w =
+    turns-next e h l {a′} {b′} {log′} {d′} {m′} i k w =
         let ψ = t .formula in
         let p = step-is (next E ψ) e h in
         let χ = resultOf ψ (p .kind) (p .a) (p .b) in
         let g = going E ψ (t .here .well) (t .here .room) (p .kind) (p .a) (p .b) (p .is) in
         let q = k χ (ap (stepOf ψ) (p .number) ∙ g .steps) in
         let side : not (d .second) ≡ sideFrom s (n + 1) = rw (add-one n) (ap not (ap (λ (c : Counts). c .second) (t .here .counts))) in
-        let m : room - n ≡ suc (room - (n + 1)) = omega arith in
+        let less : room - n ≡ suc (room - (n + 1)) = omega arith in
         record {
           formula = χ;
           here = record { stands = rw side at (q .1); counts = q .0 ∙ ap (countsOf χ) side; well = g .kept .well; room = g .kept .room };
+          quiet = i (p .kind) (p .a) (p .b) (p .is);
           done = t .done ++ (e ∷ []);
           count = length-append (t .done) (e ∷ []) ∙ ap (λ (i : ℕ). i + 1) (t .count);
           whole =
               t .whole
-              ∙ ap (withLog (t .done)) (ap (λ (i : ℕ). runFrom E i ψ) m ∙ run-step E (room - (n + 1)) ψ (p .kind) (p .a) (p .b) (p .is))
+              ∙ ap (withLog (t .done)) (ap (λ (j : ℕ). runFrom E j ψ) less ∙ run-step E (room - (n + 1)) ψ (p .kind) (p .a) (p .b) (p .is))
               ∙ ap (λ (x : List ℕ). record { outcome = runFrom E (room - (n + 1)) χ .outcome; final = runFrom E (room - (n + 1)) χ .final; log = x })
               (ap (λ (i : ℕ). t .done ++ (i ∷ runFrom E (room - (n + 1)) χ .log)) (sym (p .number)) ∙ sym (append-assoc (t .done) (e ∷ []) (runFrom E (room - (n + 1)) χ .log)));
           written = log-more (t .done) log₀ n (t .count) log (t .written) e log′ w;

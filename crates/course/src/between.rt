@@ -1,16 +1,18 @@
 // The two lent tables while a run or a replay goes on: the formula on one side, the other zero.
 ghost use mathlib.Core.Path.{_≡_};
-ghost use Prim.Native.Nat.{_≤_};
+ghost use Prim.Native.Nat.{ℕ, _≤_};
 ghost use mathlib.Core.Bool.{true, not};
 ghost use Rattle.meaning.specs.Formula.{Formula};
-ghost use Rattle.rules.specs.Step.{stepped, stepOf};
+ghost use Rattle.rules.specs.Entry.{Kind};
+ghost use Rattle.rules.specs.Step.{resultOf, stepped, stepOf};
 ghost use Rattle.rules.specs.Run as rules;
 ghost use Rattle.table.specs.Table.{countsOf};
+ghost use Rattle.search.specs.Quiet.{QuietTo};
 ghost use Rattle.choice.specs.Chosen.{nextAs};
 ghost use Rattle.apply.specs.Applied.{Known, Lends, Lent, Stands};
 use apply::Stepping;
 use apply::step;
-use choice::Next;
+use choice::Chosen;
 use choice::choose;
 use table::Counts;
 use table::zero;
@@ -27,15 +29,21 @@ pub fn clear_spare(first: &mut [u16], second: &mut [u16], c: Counts)
     }
 }
 
-// What the run does next. The index goes into the spare table, which ends zero.
-pub fn choose_between(first: &mut [u16], second: &mut [u16], c: Counts, allowance: usize) -> Next
-    requires { ⌜ Lent (now first) (now second) c × (allowance ≤ 1000) ⌝ }
-    ensures { λ r. ⌜ ((φ : Formula) → Lends φ (now (first .entry)) (now (second .entry)) c → (r ≡ nextAs (rules.next allowance φ)) × Stands φ (c .second) (now (first .exit)) (now (second .exit))) ⌝ }
+// What the run does next, where so many of the first clauses are quiet. The index goes into the spare table, which ends zero.
+pub fn choose_between(
+    first: &mut [u16],
+    second: &mut [u16],
+    c: Counts,
+    allowance: usize,
+    quiet: usize,
+) -> Chosen
+    requires { ⌜ Lent (now first) (now second) c × ((φ : Formula) → Lends φ (now first) (now second) c → QuietTo φ quiet) × (allowance ≤ 1000) ⌝ }
+    ensures { λ r. ⌜ ((φ : Formula) → Lends φ (now (first .entry)) (now (second .entry)) c → (r .next ≡ nextAs (rules.next allowance φ)) × ((k : Kind) (a b : ℕ) → rules.next allowance φ ≡ rules.step k a b → QuietTo (resultOf φ k a b) (r .quiet)) × Stands φ (c .second) (now (first .exit)) (now (second .exit))) ⌝ }
 {
     if c.second {
-        return choose(second, c, first, allowance);
+        return choose(second, c, first, allowance, quiet);
     }
-    choose(first, c, second, allowance)
+    choose(first, c, second, allowance, quiet)
 }
 
 // A step that is permitted, as the run knows, and has room: the record after it.

@@ -53,8 +53,11 @@ pub fn run(
     clear_spare(first, second, c);
     let mut d = c;
     let mut n = 0;
+    let mut quiet = 0;
     loop {
-        match choose_between(first, second, d, allowance) {
+        let chosen = choose_between(first, second, d, allowance, quiet);
+        let next = chosen.next;
+        match next {
             Next::Over(end) => {
                 return Running {
                     outcome: outcome_of(end),
@@ -73,6 +76,7 @@ pub fn run(
                 let at = 4 * n;
                 put_entry(&mut log[at..], entry);
                 d = advance(first, second, d, entry);
+                quiet = chosen.quiet;
                 n += 1;
             }
         }

@@ -23,7 +23,9 @@ fn explain_with(t: &[u16], c: Counts, spare: &mut [u16], v: usize, allowance: us
     requires { ⌜ HeldWell (now t) c × (length (now spare) ≡ 11261) × (allowance ≤ 1000) ⌝ }
     ensures { λ r. ⌜ ((φ : Formula) → Holds φ (now (t .entry)) c → wellFormed φ ≡ true → mentions (φ .prefix) v ≡ true → r ≡ whyAs (reasonOf allowance φ v)) ⌝ }
 {
-    match choose(t, c, spare, allowance) {
+    let chosen = choose(t, c, spare, allowance, 0);
+    let next = chosen.next;
+    match next {
         Next::Over(end) => match end {
             End::True => Why::True,
             End::False => Why::False,

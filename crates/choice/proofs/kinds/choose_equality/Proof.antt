@@ -1,11 +1,12 @@
--- By the candidate of kind 5; without one, by the kinds after it.
+-- By the candidate of kind 5, which may change every clause; without one, by the kinds after it.
 -- Assumes nothing.
 use mathlib.Core.Path.{refl}
 use native.Mathlib.Omega.{arith}
 use Rattle.rules.specs.Entry.{equality, code}
 use Rattle.index.proofs.ReadLaws.{studied-indexes, study-indexed}
 use Rattle.search.proofs.StudyLaws.{study-held}
-use Rattle.choice.specs.Chosen.{kindsAfter, chosenFrom}
+use Rattle.search.proofs.QuietLaws.{quiet-none}
+use Rattle.choice.specs.Chosen.{kindsAfter, nextFrom}
 use Rattle.choice.proofs.HandLaws.{apart-study}
 use Rattle.choice.proofs.KindLaws.{pair-small, pair-next, nothing-next}
 use borrow.Author.Needs.{needs}
@@ -22,7 +23,7 @@ entry-of-requires : tie.Need-entry-of-requires
 entry-of-requires c κs =
     let f = c .before .before .before in
     let p = f .before .before .before .before .pre .0 in
-    let q = pair-small 0 (p .formula) equality _ (f .find-equality .ensures (p .formula) 0 ((p .studied) .holds) (studied-indexes (p .studied))) (p .studied .holds .fitting) _ _ (c .before .a .given .1) in (omega arith, q .0, q .1)
+    let q = pair-small 0 (p .formula) equality _ (f .find-equality .ensures (p .formula) 0 (p .studied .holds) (studied-indexes (p .studied))) (p .studied .holds .fitting) _ _ (c .before .a .given .1) in (omega arith, q .0, q .1)
 
 enum-told : tie.Need-enum-told
 enum-told c = search needs
@@ -32,11 +33,15 @@ choose-resolve-requires c κs = search needs
 
 returns : tie.Need-returns
 unfolding code
-returns c = let f = c .before .before .before .before in λ φ s n. pair-next _ φ equality _ (f .find-equality .ensures φ _ (s .holds) (studied-indexes s)) _ _ (c .before .before .a .given .1) _ (c .entry-of .ensures equality refl)
+returns c =
+    let f = c .before .before .before .before in
+    λ φ s n q. pair-next _ φ equality _ (f .find-equality .ensures φ _ (s .holds) (studied-indexes s)) _ _ (c .before .before .a .given .1) _ (c .entry-of .ensures equality refl) _ (quiet-none _)
 
 returns-2 : tie.Need-returns-2
-unfolding chosenFrom kindsAfter
-returns-2 c = let f = c .before .before .before in λ φ s n. let i = f .find-equality .ensures φ _ (s .holds) (studied-indexes s) in nothing-next _ φ equality _ i (c .before .enum-told .given .1) _ (c .choose-resolve .ensures φ s n)
+unfolding nextFrom kindsAfter
+returns-2 c =
+    let f = c .before .before .before in
+    λ φ s n q. nothing-next _ φ equality _ (f .find-equality .ensures φ _ (s .holds) (studied-indexes s)) (c .before .enum-told .given .1) _ (c .choose-resolve .ensures φ s n q)
 
 pub choose-equality-spec : {M : Type 1} → statement M
 choose-equality-spec =

@@ -1,19 +1,19 @@
 -- The prefix is ranked, the index is built, and kind 3 comes first.
 -- Assumes nothing.
 use mathlib.Core.Path.{refl}
-use Rattle.choice.proofs.HandLaws.{ranked-is, prefix-part, prefix-short, unsettled-well}
+use Rattle.choice.proofs.HandLaws.{ranked-is, prefix-part, prefix-short, unsettled-well, unsettled-held}
 use borrow.Author.Needs.{needs}
 use Rattle.choice.proofs.kinds.choose_indexed.Statement.{statement}
 use Rattle.choice.proofs.kinds.choose_indexed.Tie as tie
 
 slice-aggregate-rank-prefix : tie.Need-slice-aggregate-rank-prefix
-slice-aggregate-rank-prefix c = prefix-part (unsettled-well (c .before .before .before .pre .0))
+slice-aggregate-rank-prefix c = prefix-part (unsettled-held (c .before .before .before .pre .0))
 
 slice-aggregate-rank-prefix-2 : tie.Need-slice-aggregate-rank-prefix-2
 slice-aggregate-rank-prefix-2 c = search needs
 
 rank-prefix-requires : tie.Need-rank-prefix-requires
-rank-prefix-requires c κs = (refl, prefix-short (unsettled-well (c .before .before .before .before .pre .0)))
+rank-prefix-requires c κs = (refl, prefix-short (unsettled-held (c .before .before .before .before .pre .0)))
 
 build-index-requires : tie.Need-build-index-requires
 build-index-requires c κs = let p = c .before .before .before .before .before .before .before .pre in (unsettled-well (p .0), p .1)
@@ -32,6 +32,7 @@ choose-subsume-requires c κs =
         formula = p .0 .formula;
         studied = record { holds = h; well = w; ranked = ranked-is h w (r .rank-prefix .ensures); indexed = b .build-index .ensures (p .0 .formula) h w };
         no-empty = p .0 .no-empty;
+        quiet = p .0 .quiet;
       },
       p .2,
     )
@@ -43,7 +44,7 @@ returns : tie.Need-returns
 returns c =
     let b = c .before .before .before .before .before in
     let r = b .before .before .before in
-    λ φ h w n. c .choose-subsume .ensures φ (record { holds = h; well = w; ranked = ranked-is h w (r .rank-prefix .ensures); indexed = b .build-index .ensures φ h w }) n
+    λ φ h w n q. c .choose-subsume .ensures φ (record { holds = h; well = w; ranked = ranked-is h w (r .rank-prefix .ensures); indexed = b .build-index .ensures φ h w }) n q
 
 pub choose-indexed-spec : {M : Type 1} → statement M
 choose-indexed-spec =

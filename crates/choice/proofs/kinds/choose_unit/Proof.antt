@@ -1,10 +1,11 @@
--- By the candidate of kind 1; without one, by the kinds after it.
+-- By the candidate of kind 1, of which nothing is known; without one, by the kinds after it.
 -- Assumes nothing.
 use mathlib.Core.Path.{refl}
 use native.Mathlib.Omega.{arith}
 use Rattle.rules.specs.Entry.{unit, code}
 use Rattle.table.proofs.HoldLaws.{held}
-use Rattle.choice.specs.Chosen.{kindsAfter, chosenFrom}
+use Rattle.search.proofs.QuietLaws.{quiet-none}
+use Rattle.choice.specs.Chosen.{kindsAfter, nextFrom}
 use Rattle.choice.proofs.KindLaws.{pair-small, pair-next, nothing-next}
 use borrow.Author.Needs.{needs}
 use Rattle.choice.proofs.kinds.choose_unit.Statement.{statement}
@@ -30,14 +31,19 @@ choose-pure-requires c κs = search needs
 
 returns : tie.Need-returns
 unfolding code
-returns c = let f = c .before .before .before .before in λ φ h w n. pair-next _ φ unit _ (f .find-unit .ensures φ _ h) _ _ (c .before .before .a .given .1) _ (c .entry-of .ensures unit refl)
+returns c =
+    let f = c .before .before .before .before in
+    λ φ h w n q. pair-next _ φ unit _ (f .find-unit .ensures φ _ h) _ _ (c .before .before .a .given .1) _ (c .entry-of .ensures unit refl) _ (quiet-none _)
 
 same-length : tie.Need-same-length
 same-length c = search needs
 
 returns-2 : tie.Need-returns-2
-unfolding chosenFrom kindsAfter
-returns-2 c = let u = c .before .before in let f = u .before .before .before .before in λ φ h w n. let i = f .find-unit .ensures φ _ h in nothing-next _ φ unit _ i (u .before .before .enum-told .given .1) _ (u .choose-pure .ensures φ h w n)
+unfolding nextFrom kindsAfter
+returns-2 c =
+    let u = c .before .before in
+    let f = u .before .before .before .before in
+    λ φ h w n q. nothing-next _ φ unit _ (f .find-unit .ensures φ _ h) (u .before .before .enum-told .given .1) _ (u .choose-pure .ensures φ h w n q)
 
 pub choose-unit-spec : {M : Type 1} → statement M
 choose-unit-spec =

@@ -17,19 +17,19 @@ is-present-requires c κs = search needs
 
 returns : tie.Need-returns
 unfolding emptyClause nextAs endAs
-returns c = λ φ h w. next-false _ φ (sym (c .before .is-present .ensures φ h) ∙ c .if1 .taken)
+returns c = λ φ h w q. next-false _ φ (sym (c .before .is-present .ensures φ h) ∙ c .if1 .taken)
 
 returns-2 : tie.Need-returns-2
 unfolding emptyClause nextAs endAs
-returns-2 c = λ φ h w. next-true _ φ (sym (c .before .before .before .is-present .ensures φ h) ∙ c .before .before .if1 .left) (sym (count-clauses h) ∙ c .if2 .taken)
+returns-2 c = λ φ h w q. next-true _ φ (sym (c .before .before .before .is-present .ensures φ h) ∙ c .before .before .if1 .left) (sym (count-clauses h) ∙ c .if2 .taken)
 
 choose-unit-requires : tie.Need-choose-unit-requires
 unfolding emptyClause
 choose-unit-requires c κs =
     let e = c .before .before .before in
     let p = e .before .before .before .before .before .pre in
-    let h = p .0 .holds in
-    (record { formula = p .0 .formula; holds = h; well = p .0 .well; no-empty = sym (e .before .is-present .ensures (p .0 .formula) h) ∙ e .if1 .left }, p .1, p .2)
+    let k = p .0 in
+    (record { formula = k .formula; holds = k .holds; well = k .well; no-empty = sym (e .before .is-present .ensures (k .formula) (k .holds)) ∙ e .if1 .left; quiet = k .quiet }, p .1, p .2)
 
 same-length : tie.Need-same-length
 same-length c = search needs
@@ -39,8 +39,8 @@ unfolding emptyClause
 returns-3 c =
     let u = c .before .before in
     let e = u .before .before .before .before in
-    λ φ h w.
-    let n = sym (e .before .is-present .ensures φ h) ∙ e .if1 .left in u .choose-unit .ensures φ h w n ∙ next-chosen _ φ n (λ z. u .before .before .if2 .left (count-clauses h ∙ z))
+    λ φ h w q.
+    let n = sym (e .before .is-present .ensures φ h) ∙ e .if1 .left in rw (← next-chosen _ φ n (λ z. u .before .before .if2 .left (count-clauses h ∙ z))) (u .choose-unit .ensures φ h w n q)
 
 pub decide-spec : {M : Type 1} → statement M
 decide-spec =

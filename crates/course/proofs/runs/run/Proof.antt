@@ -8,18 +8,18 @@ use Rattle.meaning.specs.Formula.{Formula}
 use Rattle.rules.specs.Run.{run}
 use Rattle.course.specs.Course.{Here}
 use Rattle.course.proofs.HereLaws.{here-lends, here-lent, lends-here}
-use Rattle.course.proofs.RunLaws.{Turns, turns-start, turns-chosen, turns-known, turns-over, turns-stopped, turns-next, entry-written}
+use Rattle.course.proofs.RunLaws.{Turns, turns-start, turns-chosen, turns-quiet, turns-known, turns-over, turns-stopped, turns-next, entry-written}
 use borrow.Author.Needs.{needs}
 use Rattle.course.proofs.runs.run.Statement.{statement}
 use Rattle.course.proofs.runs.run.Tie as tie
 
 abbrev Inv-loop : tie.InvT-loop
-Inv-loop first₀ second₀ allowance limit log₀ room d₀ n₀ first second log d n =
+Inv-loop first₀ second₀ allowance limit log₀ room d₀ n₀ quiet₀ first second log d n quiet =
     (n ≤ room) × (length first ≡ length first₀) × (length second ≡ length second₀) × (length log ≡ length log₀)
-    × ((φ : Formula) → Here φ (d₀ .second) first₀ second₀ d₀ → Turns φ allowance room (d₀ .second) log₀ first second log d n)
+    × ((φ : Formula) → Here φ (d₀ .second) first₀ second₀ d₀ → Turns φ allowance room (d₀ .second) log₀ first second log d n quiet)
 
 abbrev μ-loop : tie.MeasureT-loop
-μ-loop first₀ second₀ allowance limit log₀ room d₀ n₀ first second log d n = room - n
+μ-loop first₀ second₀ allowance limit log₀ room d₀ n₀ quiet₀ first second log d n quiet = room - n
 
 smaller-requires : tie.Need-smaller-requires Inv-loop μ-loop
 smaller-requires c κs = search needs
@@ -31,10 +31,10 @@ loop-holds : tie.Need-loop-holds Inv-loop μ-loop
 loop-holds c = (omega arith, refl, refl, refl, λ φ h. turns-start φ _ _ _ _ h)
 
 choose-between-requires : tie.Need-choose-between-requires Inv-loop μ-loop
-choose-between-requires c κs = let l = c .before .before in let p = l .before .before .before .before .before .before .before .before .before .before .before .before .pre in let t = l .loop .inv .4 (p .0 .formula) (lends-here (p .0 .lends) (l .before .before .before .before .before .clear-spare .ensures (p .0 .formula) (p .0 .lends))) in (here-lent (t .here), p .1)
+choose-between-requires c κs = let l = c .before .before in let p = l .before .before .before .before .before .before .before .before .before .before .before .before .pre in let t = l .loop .inv .4 (p .0 .formula) (lends-here (p .0 .lends) (l .before .before .before .before .before .clear-spare .ensures (p .0 .formula) (p .0 .lends))) in (here-lent (t .here), turns-quiet (p .0 .formula) _ _ _ _ t, p .1)
 
-enum-known-end : tie.Need-enum-known-end Inv-loop μ-loop
-enum-known-end c = search needs
+enum-known-next : tie.Need-enum-known-next Inv-loop μ-loop
+enum-known-next c = search needs
 
 outcome-of-requires : tie.Need-outcome-of-requires Inv-loop μ-loop
 outcome-of-requires c κs = search needs
@@ -56,10 +56,10 @@ returns c =
     λ φ h.
     let t = l .loop .inv .4 φ (lends-here h (l .before .before .before .before .before .clear-spare .ensures φ h)) in
     let q = k .choose-between .ensures (t .formula) (here-lends (t .here)) in
-    rw (sym (l .before .before .before .before .before .before .before .before .smaller .ensures)) (turns-over φ _ _ _ _ t _ (sym (c .before .before .end .given .1) ∙ q .0) _ (c .outcome-of .ensures) (turns-chosen φ _ _ _ _ t (q .1) .stands))
+    rw (sym (l .before .before .before .before .before .before .before .before .smaller .ensures)) (turns-over φ _ _ _ _ t _ (sym (c .before .before .next .given .1) ∙ q .0) _ (c .outcome-of .ensures) (turns-chosen φ _ _ _ _ t (q .2) .stands))
 
-enum-known-entry : tie.Need-enum-known-entry Inv-loop μ-loop
-enum-known-entry c = search needs
+enum-known-next-2 : tie.Need-enum-known-next-2 Inv-loop μ-loop
+enum-known-next-2 c = search needs
 
 same-length-4 : tie.Need-same-length-4 Inv-loop μ-loop
 same-length-4 c = search needs
@@ -78,7 +78,7 @@ returns-2 c =
     λ φ h.
     let t = l .loop .inv .4 φ (lends-here h (l .before .before .before .before .before .clear-spare .ensures φ h)) in
     let q = k .choose-between .ensures (t .formula) (here-lends (t .here)) in
-    rw (sym (l .before .before .before .before .before .before .before .before .smaller .ensures)) (turns-stopped φ _ _ _ _ t _ (sym (c .before .before .entry .given .1) ∙ q .0) (c .if1 .taken) (turns-chosen φ _ _ _ _ t (q .1) .stands))
+    rw (sym (l .before .before .before .before .before .before .before .before .smaller .ensures)) (turns-stopped φ _ _ _ _ t _ (sym (c .before .before .next2 .given .1) ∙ q .0) (c .if1 .taken) (turns-chosen φ _ _ _ _ t (q .2) .stands))
 
 mul-at : tie.Need-mul-at Inv-loop μ-loop
 mul-at c = search needs
@@ -104,7 +104,7 @@ advance-requires c κs =
     let p = l .before .before .before .before .before .before .before .before .before .before .before .before .pre in
     let t = l .loop .inv .4 (p .0 .formula) (lends-here (p .0 .lends) (l .before .before .before .before .before .clear-spare .ensures (p .0 .formula) (p .0 .lends))) in
     let q = k .choose-between .ensures (t .formula) (here-lends (t .here)) in
-    let h = turns-chosen (p .0 .formula) _ _ _ _ t (q .1) in (here-lent h, turns-known (p .0 .formula) _ _ _ _ t _ (sym (c .before .before .before .before .before .before .before .before .entry .given .1) ∙ q .0) h)
+    let h = turns-chosen (p .0 .formula) _ _ _ _ t (q .2) in (here-lent h, turns-known (p .0 .formula) _ _ _ _ t _ (sym (c .before .before .before .before .before .before .before .before .next2 .given .1) ∙ q .0) h)
 
 add-n : tie.Need-add-n Inv-loop μ-loop
 add-n c = search needs
@@ -125,8 +125,9 @@ loop-again c =
       λ φ h.
           let t = l .loop .inv .4 φ h in
           let q = k .choose-between .ensures (t .formula) (here-lends (t .here)) in
-          turns-next φ _ _ _ _ t _ (sym (w .before .before .before .before .entry .given .1) ∙ q .0) (omega (arith, l .loop .inv .0, w .before .before .if1 .left))
-          (λ χ i. v .advance .ensures (t .formula) χ (here-lends (turns-chosen φ _ _ _ _ t (q .1))) i)
+          turns-next φ _ _ _ _ t _ (sym (w .before .before .before .before .next2 .given .1) ∙ q .0) (omega (arith, l .loop .inv .0, w .before .before .if1 .left))
+          (q .1)
+          (λ χ i. v .advance .ensures (t .formula) χ (here-lends (turns-chosen φ _ _ _ _ t (q .2))) i)
           (entry-written (l .loop .log) _ (4 * l .loop .n) _ (w .put-entry .ensures)),
     )
 
@@ -140,13 +141,13 @@ run-spec =
     clear-spare-requires
     loop-holds
     choose-between-requires
-    enum-known-end
+    enum-known-next
     outcome-of-requires
     same-length
     same-length-2
     same-length-3
     returns
-    enum-known-entry
+    enum-known-next-2
     same-length-4
     same-length-5
     same-length-6
