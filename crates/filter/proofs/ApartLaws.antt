@@ -40,7 +40,7 @@ module _ (others : List (List ℕ)) (x f : List ℕ) where
       (λ q. or-ir (anyOf (same c) more) (stamped f c) q)
 
 -- one stamp more
-module _ (others : List (List ℕ)) (x f : List ℕ) (long : length f ≡ 128) where
+module _ (others : List (List ℕ)) (x f : List ℕ) (long : length f ≡ 8) where
   known-stamp : known others (withStamp f x) x ≡ true
   unfolding known
   known-stamp = or-ir (anyOf (same x) others) (stamped (withStamp f x) x) (stamp-own f x (filter-some f long))

@@ -33,17 +33,17 @@ module _ (t : List ℕ → Bool) (x : List ℕ) (cs : List (List ℕ)) (a : allO
       go true = a
       go false = all-snoc t cs x a e
 
--- a filter of 128 words has one
-pub filter-some : (f : List ℕ) → length f ≡ 128 → 0 < length f
+-- a filter of 8 words has one
+pub filter-some : (f : List ℕ) → length f ≡ 8 → 0 < length f
 filter-some f e = omega arith
 
 -- A filter that covers a table ------------------------------------------------------------------------------------
 -- the stamps of the first i clauses are in
 pub record Covered (cs : List (List ℕ)) (i : ℕ) (f : List ℕ) : Type 0 where
-  pub long : length f ≡ 128
+  pub long : length f ≡ 8
   pub every : allOf (stamped f) (take i cs) ≡ true
 
-pub covered-none : (cs : List (List ℕ)) (f : List ℕ) → length f ≡ 128 → Covered cs 0 f
+pub covered-none : (cs : List (List ℕ)) (f : List ℕ) → length f ≡ 8 → Covered cs 0 f
 unfolding allOf
 covered-none cs f e = record { long = e; every = refl }
 

@@ -1,4 +1,4 @@
--- A filter of 128 words that covers a table: the stamp of every clause of the table is there, so what is not stamped is not in the
+-- A filter of 8 words that covers a table: the stamp of every clause of the table is there, so what is not stamped is not in the
 -- table. Assumes nothing.
 use mathlib.Core.Path.{_≡_}
 use mathlib.Core.Bool.{Bool, true, _||_}
@@ -12,7 +12,7 @@ use Rattle.table.specs.declared.Counts.{Counts}
 
 -- the filter has the stamps of all clauses of the table t with the counts c
 pub record Covers (t : List ℕ) (c : Counts) (f : List ℕ) : Type 0 where
-  pub long : length f ≡ 128
+  pub long : length f ≡ 8
   pub every : allOf (stamped f) (decode t c .clauses) ≡ true
 
 -- the clause is one of the others, or its stamp is there
@@ -21,5 +21,5 @@ known others f x = anyOf (same x) others || stamped f x
 
 -- the filter has the stamp of every clause of the table that is none of the others
 pub record CoversBut (others : List (List ℕ)) (t : List ℕ) (c : Counts) (f : List ℕ) : Type 0 where
-  pub long : length f ≡ 128
+  pub long : length f ≡ 8
   pub every : allOf (known others f) (decode t c .clauses) ≡ true

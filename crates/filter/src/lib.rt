@@ -1,5 +1,6 @@
 // Adding clauses to a table with a filter beside it. The filter has the stamps of all clauses of the table, so a clause whose stamp it
-// lacks is new, and is added without a search. With 2,047 clauses and 8,192 bits, few clauses have to be looked for all the same.
+// lacks is new, and is added without a search. The filter has 8 words, 512 bits: most steps put few stamps in, and where there are many
+// the clauses are looked for all the same.
 // A filter may also have the stamps of some clauses of the table only. It then serves a clause that is none of the others.
 ghost use mathlib.Core.Path.{_≡_};
 ghost use Prim.Native.Nat.{ℕ};
@@ -27,7 +28,7 @@ use table::reduce_in;
 // Puts the stamps of all clauses of the table into the filter.
 pub fn cover(t: &[u16], c: Counts, filter: &mut [u64])
     requires { ⌜ Held (now t) c ⌝ }
-    requires { ⌜ length (now filter) ≡ 128 ⌝ }
+    requires { ⌜ length (now filter) ≡ 8 ⌝ }
     ensures { λ _. ⌜ Covers (now (t .entry)) c (now (filter .exit)) ⌝ }
 {
     let mut i = 0;
@@ -77,7 +78,7 @@ pub fn close_filtered(
 // A clause that is none of those whose stamps may be missing: after the others, unless an equal one is there.
 pub fn add_apart(t: &mut [u16], c: Counts, clause: &[u16], filter: &[u64]) -> Pushed
     requires { ⌜ Held (now t) c ⌝ }
-    requires { ⌜ length (now filter) ≡ 128 ⌝ }
+    requires { ⌜ length (now filter) ≡ 8 ⌝ }
     ensures { λ r. ⌜ ((φ : Formula) (others : List (List ℕ)) → Holds φ (now (t .entry)) c → CoversBut others (now (t .entry)) c (now (filter .entry)) → anyOf (same (now (clause .entry))) others ≡ false → Became φ (withNewClause φ (now (clause .entry))) (c .second) r (now (t .exit))) ⌝ }
 {
     if has_stamp(filter, clause) {
@@ -89,7 +90,7 @@ pub fn add_apart(t: &mut [u16], c: Counts, clause: &[u16], filter: &[u64]) -> Pu
 // The clause after the others, unless an equal one is there; any of them may be equal. Its stamp goes into the filter.
 fn add_stamped(t: &mut [u16], c: Counts, clause: &[u16], filter: &mut [u64]) -> Pushed
     requires { ⌜ Held (now t) c ⌝ }
-    requires { ⌜ length (now filter) ≡ 128 ⌝ }
+    requires { ⌜ length (now filter) ≡ 8 ⌝ }
     ensures { λ r. ⌜ ((φ : Formula) → Holds φ (now (t .entry)) c → Became φ (withNewClause φ (now (clause .entry))) (c .second) r (now (t .exit))) ⌝ }
     ensures { λ r. ⌜ ((others : List (List ℕ)) (d : Counts) → CoversBut others (now (t .entry)) c (now (filter .entry)) → r ≡ Pushed.Done d → CoversBut others (now (t .exit)) d (now (filter .exit))) ⌝ }
 {
@@ -109,7 +110,7 @@ pub fn close_stamped(
     requires { ⌜ Held (now t) c ⌝ }
     requires { ⌜ Pended (now scratch) p ⌝ }
     requires { ⌜ length (now ranks) ≡ 1024 ⌝ }
-    requires { ⌜ length (now filter) ≡ 128 ⌝ }
+    requires { ⌜ length (now filter) ≡ 8 ⌝ }
     ensures { λ r. ⌜ ((φ : Formula) (raw : List ℕ) → Holds φ (now (t .entry)) c → goodPrefix (φ .prefix) ≡ true → now (ranks .entry) ≡ ranksOf (φ .prefix) → Pends raw (now (scratch .entry)) p → Became φ (withRaw φ raw) (c .second) r (now (t .exit))) ⌝ }
     ensures { λ r. ⌜ ((others : List (List ℕ)) (d : Counts) → CoversBut others (now (t .entry)) c (now (filter .entry)) → r ≡ Pushed.Done d → CoversBut others (now (t .exit)) d (now (filter .exit))) ⌝ }
 {

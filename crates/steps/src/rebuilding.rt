@@ -46,7 +46,7 @@ fn add_changed(
     requires { ⌜ Held (now target) d ⌝ }
     requires { ⌜ Ready (take (d .variables) (now target)) (now ranks) ⌝ }
     requires { ⌜ length (now scratch) ≡ 1023 ⌝ }
-    requires { ⌜ length (now filter) ≡ 128 ⌝ }
+    requires { ⌜ length (now filter) ≡ 8 ⌝ }
     ensures { λ r. ⌜ ((ψ : Formula) → Holds ψ (now (target .entry)) d → Became ψ (withRaw ψ (fed turn (ψ .prefix) i (now (clause .entry)))) (d .second) r (now (target .exit))) ⌝ }
     ensures { λ r. ⌜ ((others : List (List ℕ)) (e : Counts) → CoversBut others (now (target .entry)) d (now (filter .entry)) → r ≡ Pushed.Done e → CoversBut others (now (target .exit)) e (now (filter .exit))) ⌝ }
 {
@@ -79,7 +79,7 @@ fn add_one(
     requires { ⌜ Held (now target) d ⌝ }
     requires { ⌜ Ready (take (d .variables) (now target)) (now ranks) ⌝ }
     requires { ⌜ length (now scratch) ≡ 1023 ⌝ }
-    requires { ⌜ length (now filter) ≡ 128 ⌝ }
+    requires { ⌜ length (now filter) ≡ 8 ⌝ }
     ensures { λ r. ⌜ ((ψ : Formula) (others : List (List ℕ)) → Holds ψ (now (target .entry)) d → CoversBut others (now (target .entry)) d (now (filter .entry)) → Lasts turn v (ψ .prefix) others i (now (clause .entry)) → Built (withRaws ψ (rawBy which turn (ψ .prefix) i (now (clause .entry)))) (d .second) r (now (target .exit)) × ((e : Counts) → r ≡ Pushed.Done e → CoversBut (others ++ (now (clause .entry) ∷ [])) (now (target .exit)) e (now (filter .exit)))) ⌝ }
 {
     if is_taken(which, ranks, i, clause) {
@@ -165,7 +165,7 @@ pub fn add_all(
     requires { ⌜ Shrunk v (take (d .variables) (now target)) (decode (now source) c) × (about turn v ≡ true) ⌝ }
     ensures { λ r. ⌜ ((φ ψ : Formula) → Holds φ (now (source .entry)) c → Holds ψ (now (target .entry)) d → Built (withRaws ψ (rawsBy which turn (ψ .prefix) 0 (φ .clauses))) (d .second) r (now (target .exit))) ⌝ }
 {
-    let mut filter = [0u64; 128];
+    let mut filter = [0u64; 8];
     cover(target, d, &mut filter);
     if leaves_none(turn) {
         return add_each_turned(
