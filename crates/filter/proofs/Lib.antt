@@ -1,2 +1,3 @@
 pub mod FilterLaws
 pub mod ApartLaws
+pub mod AmongLaws

@@ -23,3 +23,11 @@ known others f x = anyOf (same x) others || stamped f x
 pub record CoversBut (others : List (List ℕ)) (t : List ℕ) (c : Counts) (f : List ℕ) : Type 0 where
   pub long : length f ≡ 8
   pub every : allOf (known others f) (decode t c .clauses) ≡ true
+
+-- the clause is one of the others
+unfoldable pub oneOf : List (List ℕ) → List ℕ → Bool
+oneOf others x = anyOf (same x) others
+
+-- every clause of the table is one of the others, so that any filter will do
+pub record Among (others : List (List ℕ)) (t : List ℕ) (c : Counts) : Type 0 where
+  pub every : allOf (oneOf others) (decode t c .clauses) ≡ true

@@ -15,7 +15,7 @@ use Rattle.table.specs.Answer.{Became, Built}
 use Rattle.table.specs.declared.Counts.{Counts}
 use Rattle.table.specs.declared.Pushed.{Pushed}
 use Rattle.table.specs.declared.Pushed.the-variants.{Done, Full}
-use Rattle.steps.specs.Raws.{withRaws}
+use Rattle.steps.specs.Raws.{withRaws, Going}
 use Rattle.meaning.proofs.Basics.{by-cases, clash, false-of}
 use Rattle.meaning.proofs.Parts.{room-of, of-room}
 use Rattle.table.proofs.PadLaws.{literals-snoc}
@@ -98,14 +98,7 @@ raws-fit ψ raws f =
 pub raws-not : (ψ : Formula) (raws : List (List ℕ)) → fits ψ ≡ false → fits (withRaws ψ raws) ≡ false
 raws-not ψ raws f = false-of (fits (withRaws ψ raws)) (λ t. clash (raws-fit ψ raws t) f)
 
--- The loops: formula stands in t with the counts e, and the rest of the raw clauses goes on from it ------------------------
-pub record Going (ψ : Formula) (all rest : List (List ℕ)) (b : Bool) (t : List ℕ) (e : Counts) : Type 0 where
-  pub formula : Formula
-  pub holds : Holds formula t e
-  pub second : e .second ≡ b
-  pub prefix : formula .prefix ≡ ψ .prefix
-  pub left : withRaws formula rest ≡ withRaws ψ all
-
+-- The loops ----------------------------------------------------------------------------------------------------------------
 pub going-start : (ψ : Formula) (all : List (List ℕ)) (t : List ℕ) (d : Counts) → Holds ψ t d → Going ψ all all (d .second) t d
 going-start ψ all t d h = record { formula = ψ; holds = h; second = refl; prefix = refl; left = refl }
 

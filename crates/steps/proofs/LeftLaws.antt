@@ -105,5 +105,8 @@ module _ {φ : Formula} {source : List ℕ} {c : Counts} (h : Holds φ source c)
       lasts-at (shrunk-as k s p e) a (holds-decoded h .fitting) i within x (read (decode source c) (holds-decoded h))
 
   -- it is one of the others from now on
+  pub next-taken : take i cs ++ (x ∷ []) ≡ take (i + 1) cs
+  next-taken = rw (add-one, take-suc cs i [] within, ← read (decode source c) (holds-decoded h))
+
   pub covers-next : {target filter : List ℕ} {d : Counts} → CoversBut (take i cs ++ (x ∷ [])) target d filter → CoversBut (take (i + 1) cs) target d filter
-  covers-next {target} {filter} {d} k = rw (add-one, take-suc cs i [] within, ← read (decode source c) (holds-decoded h)) k
+  covers-next {target} {filter} {d} k = rw next-taken at k

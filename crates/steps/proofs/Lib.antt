@@ -4,6 +4,7 @@ pub mod BuildLaws
 pub mod RawLaws
 pub mod KindLaws
 pub mod LeftLaws
+pub mod LeadLaws
 pub mod GivenLaws
 pub mod PairLaws
 pub mod CopyLaws

@@ -18,7 +18,7 @@ use Rattle.table.specs.Pending.{inRange}
 use Rattle.table.specs.declared.Counts.{Counts}
 use Rattle.table.specs.declared.Pushed.{Pushed}
 use Rattle.table.specs.declared.Pushed.the-variants.{Done, Full}
-use Rattle.steps.specs.Raws.{withRaws}
+use Rattle.steps.specs.Raws.{withRaws, Going}
 use Rattle.steps.specs.Recipe.{neither, fed}
 use Rattle.steps.specs.Pairs.{eachOf, ofPair, ofClause}
 use Rattle.steps.specs.declared.Turn.the-variants.{Drop}
@@ -26,7 +26,7 @@ use Rattle.table.proofs.HoldLaws.{prefix-is}
 use Rattle.meaning.proofs.Basics.{and-l, and-r}
 use Rattle.meaning.proofs.Literals.{opp-plain}
 use Rattle.meaning.proofs.Prefix.{eqb-plain, eqb-negated}
-use Rattle.steps.proofs.BuildLaws.{built-of, built-there, Going, going-next, going-full, going-end}
+use Rattle.steps.proofs.BuildLaws.{built-of, built-there, going-next, going-full, going-end}
 use Rattle.steps.proofs.KindLaws.{fed-drop}
 
 -- One pair --------------------------------------------------------------------------------------------------------

@@ -18,7 +18,7 @@ use Rattle.table.specs.Ranks.{ranksOf, goodEntries, Ranked}
 use Rattle.table.specs.declared.Counts.{Counts}
 use Rattle.table.specs.declared.Pushed.{Pushed}
 use Rattle.table.specs.declared.Pushed.the-variants.{Done, Full}
-use Rattle.steps.specs.Raws.{bare, withRaws}
+use Rattle.steps.specs.Raws.{bare, withRaws, Going}
 use Rattle.steps.specs.Recipe.{Ready, taken, fed, rawBy, rawsBy, remade}
 use Rattle.steps.specs.Left.{Shrunk}
 use Rattle.steps.specs.declared.Which.{Which}
@@ -29,7 +29,7 @@ use Rattle.rules.proofs.Good.{good-drop}
 use Rattle.table.proofs.HoldLaws.{prefix-is}
 use Rattle.table.proofs.DecodeLaws.{decode-holds}
 use Rattle.permits.proofs.PlaceLaws.{good-entries}
-use Rattle.steps.proofs.BuildLaws.{built-of, built-there, built-done, Going, going-next, going-full, going-end}
+use Rattle.steps.proofs.BuildLaws.{built-of, built-there, built-done, going-next, going-full, going-end}
 
 -- the ranks of a held formula's prefix
 module _ {ψ : Formula} {t ranks : List ℕ} {d : Counts} (h : Holds ψ t d) (r : Ready (take (d .variables) t) ranks) where
@@ -73,11 +73,18 @@ module _ (w : Which) (u : Turn) {ψ : Formula} {t : List ℕ} {d : Counts} (h : 
   one-stays n e r t′ k = one-changed n r t′ (subst (λ (χ : Formula). Became ψ χ (d .second) r t′) (stands e) k)
 
 -- All clauses -----------------------------------------------------------------------------------------------------
-module _ (w : Which) (u : Turn) (ψ : Formula) (cs : List (List ℕ)) (b : Bool) (t : List ℕ) (e : Counts) (i : ℕ)
-    (g : Going ψ (rawsBy w u (ψ .prefix) 0 cs) (rawsBy w u (ψ .prefix) i (drop i cs)) b t e) where
-  pub all-end : length cs ≤ i → Built (withRaws ψ (rawsBy w u (ψ .prefix) 0 cs)) b (Done e) t
+module _ (w : Which) (u : Turn) (ψ : Formula) (cs : List (List ℕ)) {all : List (List ℕ)} (b : Bool) (t : List ℕ) (e : Counts) (i : ℕ)
+    (g : Going ψ all (rawsBy w u (ψ .prefix) i (drop i cs)) b t e) where
+  pub all-end : length cs ≤ i → Built (withRaws ψ all) b (Done e) t
   unfolding rawsBy
-  all-end h = going-end ψ (rawsBy w u (ψ .prefix) 0 cs) (rawsBy w u (ψ .prefix) i (drop i cs)) b t e g (rw (drop-of-length-le cs {i = i} h))
+  all-end h = going-end ψ all (rawsBy w u (ψ .prefix) i (drop i cs)) b t e g (rw (drop-of-length-le cs {i = i} h))
+
+  -- the rest at once
+  pub all-on : (r : Pushed) (t′ : List ℕ) → Built (withRaws (g .formula) (rawsBy w u (g .formula .prefix) i (drop i cs))) (e .second) r t′ → Built (withRaws ψ all) b r t′
+  all-on r t′ k =
+      let p : Built (withRaws (g .formula) (rawsBy w u (ψ .prefix) i (drop i cs))) (e .second) r t′ =
+      subst (λ (x : List ℕ). Built (withRaws (g .formula) (rawsBy w u x i (drop i cs))) (e .second) r t′) (g .prefix) k in
+      rw (g .second, g .left) at p
 
   module _ (h : i < length cs) (c : List ℕ) (is : c ≡ getD cs i []) (r : Pushed) (t′ : List ℕ) (k : Built (withRaws (g .formula) (rawBy w u (g .formula .prefix) i c)) (e .second) r t′) where
     split : rawsBy w u (ψ .prefix) i (drop i cs) ≡ rawBy w u (ψ .prefix) i c ++ rawsBy w u (ψ .prefix) (i + 1) (drop (i + 1) cs)
@@ -87,11 +94,11 @@ module _ (w : Which) (u : Turn) (ψ : Formula) (cs : List (List ℕ)) (b : Bool)
     built : Built (withRaws (g .formula) (rawBy w u (ψ .prefix) i c)) (e .second) r t′
     built = subst (λ (p : List ℕ). Built (withRaws (g .formula) (rawBy w u p i c)) (e .second) r t′) (g .prefix) k
 
-    pub all-next : (e′ : Counts) → r ≡ Done e′ → Going ψ (rawsBy w u (ψ .prefix) 0 cs) (rawsBy w u (ψ .prefix) (i + 1) (drop (i + 1) cs)) b t′ e′
-    all-next = going-next ψ (rawsBy w u (ψ .prefix) 0 cs) (rawsBy w u (ψ .prefix) i (drop i cs)) b t e g (rawBy w u (ψ .prefix) i c) (rawsBy w u (ψ .prefix) (i + 1) (drop (i + 1) cs)) split r t′ built
+    pub all-next : (e′ : Counts) → r ≡ Done e′ → Going ψ all (rawsBy w u (ψ .prefix) (i + 1) (drop (i + 1) cs)) b t′ e′
+    all-next = going-next ψ all (rawsBy w u (ψ .prefix) i (drop i cs)) b t e g (rawBy w u (ψ .prefix) i c) (rawsBy w u (ψ .prefix) (i + 1) (drop (i + 1) cs)) split r t′ built
 
-    pub all-full : r ≡ Full → Built (withRaws ψ (rawsBy w u (ψ .prefix) 0 cs)) b Full t′
-    all-full = going-full ψ (rawsBy w u (ψ .prefix) 0 cs) (rawsBy w u (ψ .prefix) i (drop i cs)) b t e g (rawBy w u (ψ .prefix) i c) (rawsBy w u (ψ .prefix) (i + 1) (drop (i + 1) cs)) split r t′ built
+    pub all-full : r ≡ Full → Built (withRaws ψ all) b Full t′
+    all-full = going-full ψ all (rawsBy w u (ψ .prefix) i (drop i cs)) b t e g (rawBy w u (ψ .prefix) i c) (rawsBy w u (ψ .prefix) (i + 1) (drop (i + 1) cs)) split r t′ built
 
 -- The whole ---------------------------------------------------------------------------------------------------------
 pub ranked-ready : {ψ : Formula} {t : List ℕ} {d : Counts} → Holds ψ t d → goodPrefix (ψ .prefix) ≡ true → (r : Bool) (ranks : List ℕ) → Ranked (take (d .variables) t) r ranks → Ready (take (d .variables) t) ranks

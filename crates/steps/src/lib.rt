@@ -3,6 +3,7 @@ mod copies;
 mod deciding;
 mod expanding;
 mod kinds;
+mod leading;
 mod prefixes;
 mod rebuilding;
 mod recipes;

@@ -1,22 +1,25 @@
 // The pass over the source's clauses. A clause that is left as it was is tidy and differs from all others of the source, so it is added
 // as it stands: it can only equal a clause that was there at the start or one that changed, and a filter has the stamps of these.
-// What becomes of a clause that changes is tidied, and looked for among all clauses of the target; such clauses are few.
+// What becomes of a clause that changes is tidied, and looked for among all clauses of the target; such clauses are few. Up to the first
+// of them no filter is wanted: see leading.
 ghost use mathlib.Core.Path.{_≡_};
 ghost use Prim.Native.Nat.{ℕ};
 ghost use mathlib.Core.Bool.{true, not};
 ghost use mathlib.Core.List.{List, [], _∷_, _++_};
-ghost use lib.ListN.{length, take};
+ghost use lib.ListN.{length, take, drop};
 ghost use Rattle.meaning.specs.Formula.{Formula, dropVar};
 ghost use Rattle.meaning.specs.Tidy.{tidied};
 ghost use Rattle.meaning.specs.WellFormed.{wellFormed};
 ghost use Rattle.table.specs.Table.{emptyFormula, tableOf, decode, withRaw, Holds, Held};
 ghost use Rattle.table.specs.Answer.{Became, Built};
-ghost use Rattle.filter.specs.Filter.{Covers, CoversBut};
+ghost use Rattle.filter.specs.Filter.{CoversBut};
 ghost use Rattle.steps.specs.Raws.{withRaws};
 ghost use Rattle.steps.specs.Recipe.{Ready, fed, rawBy, rawsBy, remade};
 ghost use Rattle.steps.specs.Left.{about, Lasts, Shrunk};
 use crate::Turn;
 use crate::Which;
+use crate::leading::Lead;
+use crate::leading::copy_lead;
 use crate::prefixes::copy_prefix;
 use crate::recipes::feed;
 use crate::recipes::is_left;
@@ -91,12 +94,13 @@ fn add_one(
     Pushed::Done(d)
 }
 
-// What becomes of all clauses of the source. The filter covers the target.
+// What becomes of the clauses of the source from one on. The filter covers the target but for the clauses before it.
 fn add_each(
     source: &[u16],
     c: Counts,
     target: &mut [u16],
     d: Counts,
+    from: usize,
     v: u16,
     which: Which,
     turn: Turn,
@@ -109,11 +113,11 @@ fn add_each(
     requires { ⌜ Ready (take (d .variables) (now target)) (now ranks) ⌝ }
     requires { ⌜ length (now scratch) ≡ 1023 ⌝ }
     requires { ⌜ Shrunk v (take (d .variables) (now target)) (decode (now source) c) × (about turn v ≡ true) ⌝ }
-    requires { ⌜ Covers (now target) d (now filter) ⌝ }
-    ensures { λ r. ⌜ ((φ ψ : Formula) → Holds φ (now (source .entry)) c → Holds ψ (now (target .entry)) d → Built (withRaws ψ (rawsBy which turn (ψ .prefix) 0 (φ .clauses))) (d .second) r (now (target .exit))) ⌝ }
+    requires { ⌜ CoversBut (take from (decode (now source) c .clauses)) (now target) d (now filter) ⌝ }
+    ensures { λ r. ⌜ ((φ ψ : Formula) → Holds φ (now (source .entry)) c → Holds ψ (now (target .entry)) d → Built (withRaws ψ (rawsBy which turn (ψ .prefix) from (drop from (φ .clauses)))) (d .second) r (now (target .exit))) ⌝ }
 {
     let mut e = d;
-    let mut i = 0;
+    let mut i = from;
     while i < c.clauses {
         match add_one(
             target,
@@ -180,18 +184,24 @@ pub fn add_all(
             &mut filter,
         );
     }
-    add_each(
-        source,
-        c,
-        target,
-        d,
-        v,
-        which,
-        turn,
-        scratch,
-        ranks,
-        &mut filter,
-    )
+    match copy_lead(source, c, target, d, v, which, turn, ranks) {
+        Lead::Upto(i, e) => {
+            add_each(
+                source,
+                c,
+                target,
+                e,
+                i,
+                v,
+                which,
+                turn,
+                scratch,
+                ranks,
+                &mut filter,
+            )
+        }
+        Lead::Over => Pushed::Full,
+    }
 }
 
 // The source's formula remade by a recipe, in a target that is all zero. Variable v is dropped; 0 is none.

@@ -7,8 +7,9 @@ use lib.ListN.{length, drop}
 use Rattle.meaning.specs.Formula.{Formula}
 use Rattle.table.specs.Table.{Holds}
 use Rattle.table.proofs.HoldLaws.{bounds, held, count-clauses}
+use Rattle.steps.specs.Raws.{Going}
 use Rattle.steps.specs.Pairs.{eachOf, ofPair}
-use Rattle.steps.proofs.BuildLaws.{Going, going-start}
+use Rattle.steps.proofs.BuildLaws.{going-start}
 use Rattle.steps.proofs.RawLaws.{ready-as}
 use Rattle.steps.proofs.PairLaws.{each-next, each-full, each-end, pair-as}
 use borrow.Author.Needs.{needs}

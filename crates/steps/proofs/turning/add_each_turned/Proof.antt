@@ -9,8 +9,9 @@ use Rattle.table.specs.Table.{Holds}
 use Rattle.table.proofs.HoldLaws.{bounds, held, count-clauses}
 use Rattle.filter.specs.Filter.{Covers}
 use Rattle.filter.proofs.FilterLaws.{covers-full, covers-same}
+use Rattle.steps.specs.Raws.{Going}
 use Rattle.steps.specs.Recipe.{rawsBy}
-use Rattle.steps.proofs.BuildLaws.{Going, going-start}
+use Rattle.steps.proofs.BuildLaws.{going-start}
 use Rattle.steps.proofs.RawLaws.{ready-as, all-next, all-full, all-end}
 use borrow.Author.Needs.{needs}
 use Rattle.steps.proofs.turning.add_each_turned.Statement.{statement}
