@@ -15,7 +15,7 @@ use Rattle.table.specs.Ranks.{small}
 use Rattle.table.specs.declared.Counts.{Counts}
 use Rattle.index.specs.Index.{clausesFrom, clausesWith, listsBelow, listStart, listEnd, placed, listsOf, signsAt, indexOf}
 use Rattle.index.specs.Signs.{signed}
-use Rattle.index.specs.Build.{lower, startsIn, withNumber, HeldWell, Filled, Listable, Turn, Turned}
+use Rattle.index.specs.Build.{lower, startsIn, withNumber, HeldWell, Filled, Listable, Turn, Turned, Tallies, TallyIn}
 use Rattle.meaning.proofs.Basics.{and-l, and-r, and-i}
 use Rattle.meaning.proofs.Lists.{all-append}
 use Rattle.table.proofs.HoldLaws.{room, count-clauses}
@@ -138,9 +138,11 @@ starts-needs {φ} {t} {c} h w =
     rw (used-is h) (omega (arith, length-all (φ .clauses), s .literals), all-literals small (φ .clauses) (s .low))
 
 module _ {φ : Formula} {t : List ℕ} {c : Counts} (h : Holds φ t c) (w : wellFormed φ ≡ true) where
-  pub build-start : (index : List ℕ) → index ≡ startsIn (take (3070 + c .literals - 3070) (drop 3070 t))
-      → Filled (φ .clauses) (clausesWith (take 0 (φ .clauses))) index
-  build-start index e = fill-start (φ .clauses) index (listable h w) (e ∙ ap startsIn (used-is h))
+  pub tallies : (tally : List ℕ) → TallyIn t c tally → Tallies φ tally
+  tallies tally f = record { well = w; fitting = h .fitting; counts = f φ h w }
+
+  pub build-start : (index : List ℕ) → index ≡ startsIn (allLiterals (φ .clauses)) → Filled (φ .clauses) (clausesWith (take 0 (φ .clauses))) index
+  build-start index e = fill-start (φ .clauses) index (listable h w) e
 
   pub build-turn : (index clause : List ℕ) (i : ℕ) → i < c .clauses → clause ≡ getD (φ .clauses) i []
       → Filled (φ .clauses) (clausesWith (take i (φ .clauses))) index → Turn (φ .clauses) index clause i

@@ -10,6 +10,8 @@ use Rattle.meaning.specs.Formula.{Formula}
 use Rattle.table.specs.Table.{allLiterals}
 use Rattle.index.specs.Index.{clausesWith, indexOf, Indexes}
 use Rattle.index.specs.Build.{times, countsIn, tallyOf, Tallies}
+use Rattle.meaning.proofs.Parts.{room-of}
+use Rattle.table.proofs.PadLaws.{length-all}
 use Rattle.index.proofs.CountLaws.{times-with}
 use Rattle.index.proofs.PlaceLaws.{places-length, place-at}
 use Rattle.index.proofs.ReadLaws.{rise-all, list-none}
@@ -20,6 +22,10 @@ module _ {φ : Formula} {tally : List ℕ} (h : Tallies φ tally) where
   tally-length =
       ap length (h .counts) ∙ length-append (map (times (allLiterals (φ .clauses))) (upFrom 0 2048)) (replicate {A = ℕ} 9213 0)
       ∙ omega (arith, places-length (times (allLiterals (φ .clauses))) 2048, length-replicate {A = ℕ} 9213 0)
+
+  -- so many literals at most
+  pub tally-room : length (allLiterals (φ .clauses)) ≤ 8191
+  tally-room = omega (arith, length-all (φ .clauses), room-of φ (h .fitting) .literals)
 
   pub tally-is : (l : ℕ) → l < 2048 → getD tally l 0 ≡ length (clausesWith (φ .clauses) l)
   unfolding tallyOf countsIn

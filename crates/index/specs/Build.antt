@@ -48,6 +48,10 @@ pub record Tallied (tally : List ℕ) : Type 0 where
   pub formula : Formula
   pub tallies : Tallies formula tally
 
+-- the tally of the formula that the table t with the counts c holds
+abbrev pub TallyIn : List ℕ → Counts → List ℕ → Type 0
+TallyIn t c tally = (φ : Formula) → Holds φ t c → wellFormed φ ≡ true → tally ≡ tallyOf (φ .clauses)
+
 -- The numbers ------------------------------------------------------------------------------------------------
 -- the number i at the end of the list of l, whose place then tells the new end
 unfoldable pub withNumber : List ℕ → ℕ → ℕ → List ℕ

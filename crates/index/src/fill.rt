@@ -8,7 +8,7 @@ ghost use Rattle.meaning.specs.Formula.{Formula};
 ghost use Rattle.meaning.specs.WellFormed.{wellFormed};
 ghost use Rattle.table.specs.Table.{Holds};
 ghost use Rattle.index.specs.Index.{clausesWith, listsOf, indexOf};
-ghost use Rattle.index.specs.Build.{withNumber, HeldWell, Filled, Turn, Turned};
+ghost use Rattle.index.specs.Build.{withNumber, HeldWell, TallyIn, Filled, Turn, Turned};
 use crate::lists::NUMBERS_AT;
 use crate::signs::put_signatures;
 use crate::starts::list_starts;
@@ -39,15 +39,13 @@ fn put_clause(index: &mut [u16], clause: &[u16], number: u16)
     }
 }
 
-// The lists of all literals, whatever the table held.
+// The lists of all literals, where their tally was.
 fn put_lists(t: &[u16], c: Counts, index: &mut [u16])
     requires { ⌜ HeldWell (now t) c ⌝ }
-    requires { ⌜ length (now index) ≡ 11261 ⌝ }
+    requires { ⌜ (length (now index) ≡ 11261) × TallyIn (now t) c (now index) ⌝ }
     ensures { λ _. ⌜ ((φ : Formula) → Holds φ (now (t .entry)) c → wellFormed φ ≡ true → now (index .exit) ≡ listsOf (φ .clauses)) ⌝ }
 {
-    let start = Counts::LITERALS_AT;
-    let end = Counts::LITERALS_AT + c.literals;
-    list_starts(&t[start..end], index);
+    list_starts(index);
     let mut i = 0;
     while i < c.clauses {
         put_clause(index, clause_at(t, c, i), i as u16);
@@ -55,10 +53,10 @@ fn put_lists(t: &[u16], c: Counts, index: &mut [u16])
     }
 }
 
-// Writes the index of a formula into the idle table, whatever that holds.
+// Writes the index of a formula into the idle table, which holds the tally: so the literals are counted once for both.
 pub fn build_index(t: &[u16], c: Counts, index: &mut [u16])
     requires { ⌜ HeldWell (now t) c ⌝ }
-    requires { ⌜ length (now index) ≡ 11261 ⌝ }
+    requires { ⌜ (length (now index) ≡ 11261) × TallyIn (now t) c (now index) ⌝ }
     ensures { λ _. ⌜ ((φ : Formula) → Holds φ (now (t .entry)) c → wellFormed φ ≡ true → now (index .exit) ≡ indexOf (φ .clauses)) ⌝ }
 {
     put_lists(t, c, index);

@@ -4,8 +4,10 @@ ghost use Prim.Native.Nat.{_≤_};
 ghost use mathlib.Core.Bool.{true};
 ghost use lib.ListN.{length};
 ghost use Rattle.meaning.specs.Lists.{allOf};
+ghost use Rattle.meaning.specs.Formula.{Formula};
+ghost use Rattle.table.specs.Table.{allLiterals};
 ghost use Rattle.table.specs.Ranks.{small};
-ghost use Rattle.index.specs.Build.{countsIn, startsIn};
+ghost use Rattle.index.specs.Build.{countsIn, startsIn, Tallies, Tallied};
 use crate::lists::NUMBERS_AT;
 use table::zero;
 
@@ -23,12 +25,11 @@ pub fn count_literals(literals: &[u16], index: &mut [u16])
     }
 }
 
-// How many of these literals are lower than each literal: where its list begins.
-pub fn list_starts(literals: &[u16], index: &mut [u16])
-    requires { ⌜ (length (now index) ≡ 11261) × (length (now literals) ≤ 8191) × (allOf small (now literals) ≡ true) ⌝ }
-    ensures { λ _. ⌜ now (index .exit) ≡ startsIn (now (literals .entry)) ⌝ }
+// How many literals are lower than each literal, where a tally was: there its list begins.
+pub fn list_starts(index: &mut [u16])
+    requires { ⌜ Tallied (now index) ⌝ }
+    ensures { λ _. ⌜ ((φ : Formula) → Tallies φ (now (index .entry)) → now (index .exit) ≡ startsIn (allLiterals (φ .clauses))) ⌝ }
 {
-    count_literals(literals, index);
     let mut sum: u16 = 0;
     let mut l = 0;
     while l < NUMBERS_AT {

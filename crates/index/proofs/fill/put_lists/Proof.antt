@@ -11,47 +11,37 @@ use Rattle.table.specs.Table.{Holds}
 use Rattle.table.proofs.HoldLaws.{held, holds-bounds}
 use Rattle.index.specs.Index.{clausesWith}
 use Rattle.index.specs.Build.{Filled, HeldWell}
-use Rattle.index.proofs.FillLaws.{starts-needs, build-start, build-turn, build-end, turned}
+use Rattle.index.proofs.FillLaws.{tallies, build-start, build-turn, build-end, turned}
 use borrow.Author.Needs.{needs}
 use Rattle.index.proofs.fill.put_lists.Statement.{statement}
 use Rattle.index.proofs.fill.put_lists.Tie as tie
 
 abbrev Inv-loop : tie.InvT-loop
-Inv-loop t c index₀ start end i₀ index i =
+Inv-loop t c index₀ i₀ index i =
     (i ≤ c .clauses)
     × (length index ≡ 11261)
     × HeldWell t c
     × ((φ : Formula) → Holds φ t c → wellFormed φ ≡ true → Filled (φ .clauses) (clausesWith (take i (φ .clauses))) index)
 
 abbrev μ-loop : tie.MeasureT-loop
-μ-loop t c index₀ start end i₀ index i = c .clauses - i
-
-add-end : tie.Need-add-end Inv-loop μ-loop
-add-end c = let b = holds-bounds (c .before .before .before .pre .0 .holds) in omega arith
-
-mul-list-starts : tie.Need-mul-list-starts Inv-loop μ-loop
-mul-list-starts c = search needs
-
-sub-list-starts : tie.Need-sub-list-starts Inv-loop μ-loop
-sub-list-starts c = search needs
-
-part-list-starts-start : tie.Need-part-list-starts-start Inv-loop μ-loop
-part-list-starts-start c = search needs
-
-part-list-starts-end : tie.Need-part-list-starts-end Inv-loop μ-loop
-part-list-starts-end c = let b = holds-bounds (c .before .before .before .pre .0 .holds) in omega arith
+μ-loop t c index₀ i₀ index i = c .clauses - i
 
 list-starts-requires : tie.Need-list-starts-requires Inv-loop μ-loop
 list-starts-requires c κs =
-    let s = c .before .before .before .before .before in
-    let n = starts-needs (s .pre .0 .holds) (s .pre .0 .well) in
-    (s .pre .1, n .0, n .1)
+    let s = c .before .before .before in
+    let g = s .pre .0 in
+    record { formula = g .formula; tallies = tallies (g .holds) (g .well) _ (s .pre .1 .1) }
 
 loop-holds : tie.Need-loop-holds Inv-loop μ-loop
 loop-holds c =
     let n = c .before .before in
-    let s = n .before .before .before .before .before .before in
-    (omega arith, n .list-starts .kept .1 .0 ∙ s .pre .1, s .pre .0, λ φ h w. build-start h w _ (n .list-starts .ensures))
+    let s = n .before .before .before .before in
+    let g = s .pre .0 in (
+      omega arith,
+      n .list-starts .kept .0 ∙ s .pre .1 .0,
+      g,
+      λ φ h w. build-start h w _ (n .list-starts .ensures φ (tallies h w _ (s .pre .1 .1))),
+    )
 
 clause-at-requires : tie.Need-clause-at-requires Inv-loop μ-loop
 clause-at-requires c κs = (held (c .before .before .before .loop .inv .2 .holds), c .before .if1 .taken)
@@ -96,11 +86,6 @@ put-lists-spec =
     (tie.spec
     Inv-loop
     μ-loop
-    add-end
-    mul-list-starts
-    sub-list-starts
-    part-list-starts-start
-    part-list-starts-end
     list-starts-requires
     loop-holds
     clause-at-requires

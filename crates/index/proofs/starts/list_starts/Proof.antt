@@ -4,25 +4,25 @@ use Prim.Native.Nat.{_≤_, _-_}
 use mathlib.Core.Path.{_≡_, sym, _∙_}
 use native.Mathlib.Omega.{arith}
 use lib.ListN.{length, length-set}
+use Rattle.meaning.specs.Formula.{Formula}
+use Rattle.table.specs.Table.{allLiterals}
+use Rattle.index.specs.Build.{tallyOf, Tallies, Tallied}
+use Rattle.index.proofs.TallyLaws.{tally-length, tally-room}
 use Rattle.index.proofs.StartLaws.{Summed, sum-start, sum-fits, sum-turn, sum-end}
 use borrow.Author.Needs.{needs}
 use Rattle.index.proofs.starts.list_starts.Statement.{statement}
 use Rattle.index.proofs.starts.list_starts.Tie as tie
 
 abbrev Inv-loop : tie.InvT-loop
-Inv-loop literals index₀ sum₀ l₀ index sum l = (l ≤ 2048) × (length literals ≤ 8191) × (length index ≡ 11261) × Summed literals index l sum
+Inv-loop index₀ sum₀ l₀ index sum l =
+    (l ≤ 2048) × (length index ≡ 11261) × Tallied index₀ × ((φ : Formula) → Tallies φ index₀ → Summed (allLiterals (φ .clauses)) index l sum)
 
 abbrev μ-loop : tie.MeasureT-loop
-μ-loop literals index₀ sum₀ l₀ index sum l = 2048 - l
-
-count-literals-requires : tie.Need-count-literals-requires Inv-loop μ-loop
-count-literals-requires c κs = search needs
+μ-loop index₀ sum₀ l₀ index sum l = 2048 - l
 
 loop-holds : tie.Need-loop-holds Inv-loop μ-loop
-loop-holds c =
-    let n = c .before .before in
-    let s = n .before .before .before .before in
-    (omega arith, s .pre .1, n .count-literals .kept .1 .0 ∙ s .pre .0, sum-start _ _ (n .count-literals .ensures))
+unfolding tallyOf
+loop-holds c = (omega arith, tally-length (c .pre .tallies), c .pre, λ φ h. sum-start _ _ (h .counts))
 
 mul-n : tie.Need-mul-n Inv-loop μ-loop
 mul-n c = search needs
@@ -39,8 +39,9 @@ slice-write-index c = search needs
 add-sum : tie.Need-add-sum Inv-loop μ-loop
 add-sum c =
     let l = c .before .before in
-    let f = sum-fits _ _ (l .loop .l) _ (l .loop .inv .3) (omega arith) in
-    omega arith
+    let k = l .loop .inv .2 in
+    let f = sum-fits _ _ (l .loop .l) _ (l .loop .inv .3 (k .formula) (k .tallies)) (omega arith) in
+    omega (arith, f, tally-room (k .tallies))
 
 add-l : tie.Need-add-l Inv-loop μ-loop
 add-l c = search needs
@@ -52,13 +53,13 @@ loop-again : tie.Need-loop-again Inv-loop μ-loop
 loop-again c =
     let l = c .before .before in
     let v = l .loop .inv in
-    (omega arith, v .1, simp length-set (v .2), sum-turn _ _ (l .loop .l) _ (v .3) (omega arith))
+    (omega arith, simp length-set (v .1), v .2, λ φ h. sum-turn _ _ (l .loop .l) _ (v .3 φ h) (omega arith))
 
 same-length : tie.Need-same-length Inv-loop μ-loop
-same-length c = c .before .loop .inv .2 ∙ sym (c .before .before .before .before .before .before .before .before .pre .0)
+same-length c = c .before .loop .inv .1 ∙ sym (tally-length (c .before .loop .inv .2 .tallies))
 
 returns : tie.Need-returns Inv-loop μ-loop
-returns c = sum-end _ _ (c .before .loop .l) _ (c .before .loop .inv .3) (omega arith)
+returns c = λ φ h. sum-end _ _ (c .before .loop .l) _ (c .before .loop .inv .3 φ h) (omega arith)
 
 pub list-starts-spec : {M : Type 1} → statement M
 list-starts-spec =
@@ -66,7 +67,6 @@ list-starts-spec =
     (tie.spec
     Inv-loop
     μ-loop
-    count-literals-requires
     loop-holds
     mul-n
     slice-read-n
