@@ -57,9 +57,6 @@ module _ {φ : Formula} {t : List ℕ} {c : Counts} (h : Holds φ t c) (w : well
 pub unsettled-well : {t : List ℕ} {c : Counts} {m : ℕ} → Unsettled t c m → HeldWell t c
 unsettled-well u = record { formula = u .formula; holds = u .holds; well = u .well }
 
-pub unsettled-held : {t : List ℕ} {c : Counts} {m : ℕ} → Unsettled t c m → Held t c
-unsettled-held u = held (u .holds)
-
 -- where nothing is known
 pub quiet-start : {t : List ℕ} {c : Counts} → HeldWell t c → HeldQuiet t c 0
 quiet-start k = record { formula = k .formula; holds = k .holds; well = k .well; quiet = quiet-none (k .formula) }
@@ -73,12 +70,18 @@ quiet-held {φ} {t} {c} {m} k h =
 pub tally-of : {φ : Formula} {t tally : List ℕ} {c : Counts} → Holds φ t c → wellFormed φ ≡ true → tally ≡ tallyOf (φ .clauses) → Tallies φ tally
 tally-of h w e = record { well = w; fitting = h .fitting; counts = e }
 
--- the part of the table that is lent with the prefix
-pub prefix-part : {t : List ℕ} {c : Counts} → Held t c → c .variables ≡ length (take (c .variables) t)
-prefix-part {t} {c} h = let b = bounds h in sym (length-take-le (c .variables) t (omega arith))
+pub well-held : {t : List ℕ} {c : Counts} → HeldWell t c → Held t c
+well-held k = held (k .holds)
 
-pub prefix-short : {t : List ℕ} {c : Counts} → Held t c → length (take (c .variables) t) ≤ 1023
-prefix-short {t} {c} h = let b = bounds h in omega (arith, length-take-le (c .variables) t (omega arith))
+-- the part of the table that is lent with the prefix
+pub prefix-held : {t : List ℕ} {c : Counts} → Held t c → c .variables ≡ length (take (c .variables) t)
+prefix-held {t} {c} h = let b = bounds h in sym (length-take-le (c .variables) t (omega arith))
+
+pub prefix-part : {t : List ℕ} {c : Counts} → HeldWell t c → c .variables ≡ length (take (c .variables) t)
+prefix-part h = prefix-held (well-held h)
+
+pub prefix-short : {t : List ℕ} {c : Counts} → HeldWell t c → length (take (c .variables) t) ≤ 1023
+prefix-short {t} {c} h = let b = bounds (well-held h) in omega (arith, prefix-part h)
 
 -- the entry of a universal is not in it
 pub not-universal : {φ : Formula} {t : List ℕ} {c : Counts} → Holds φ t c → (a : ℕ) (r : Bool) → r ≡ has (2 * a + 1) (take (c .variables) t) → r ≡ false

@@ -12,7 +12,7 @@ use Rattle.meaning.specs.Game.{emptyClause, noClause}
 use Rattle.meaning.specs.WellFormed.{wellFormed, fits}
 use Rattle.rules.specs.Entry.{Kind, unit, pure, subsume, strengthen, equality, resolve, expand, usesB, entry}
 use Rattle.rules.specs.Step.{permitted, resultOf}
-use Rattle.rules.specs.Choice.{Found, none, found, costly, light, wanted, allowedCall, blockedCall, firsts, seconds, candidate, kinds, anyBlocked, stuck, takeFound, chooseOf, choose}
+use Rattle.rules.specs.Choice.{Found, none, found, costly, wanted, blockedCall, firsts, seconds, candidate, kinds, anyBlocked, stuck, takeFound, chooseOf, choose}
 use Rattle.rules.specs.Run as rules
 use Rattle.rules.specs.Run.{over, step, isTRUE, isFALSE}
 use Rattle.rules.proofs.Permitted.{allowed-wanted, wanted-permitted}

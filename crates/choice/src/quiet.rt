@@ -17,10 +17,10 @@ use table::contains;
 pub fn less(a: usize, b: usize) -> usize
     ensures { λ r. ⌜ r ≡ a - b ⌝ }
 {
-    if a < b {
-        return 0;
+    if b <= a {
+        return a - b;
     }
-    a - b
+    0
 }
 
 pub fn lower(a: usize, b: usize) -> usize

@@ -1,19 +1,19 @@
 -- The prefix is ranked, the index is built, and kind 3 comes first.
 -- Assumes nothing.
 use mathlib.Core.Path.{refl}
-use Rattle.choice.proofs.HandLaws.{ranked-is, prefix-part, prefix-short, unsettled-well, unsettled-held}
+use Rattle.choice.proofs.HandLaws.{ranked-is, prefix-part, prefix-short, unsettled-well}
 use borrow.Author.Needs.{needs}
 use Rattle.choice.proofs.kinds.choose_indexed.Statement.{statement}
 use Rattle.choice.proofs.kinds.choose_indexed.Tie as tie
 
 slice-aggregate-rank-prefix : tie.Need-slice-aggregate-rank-prefix
-slice-aggregate-rank-prefix c = prefix-part (unsettled-held (c .before .before .before .pre .0))
+slice-aggregate-rank-prefix c = prefix-part (unsettled-well (c .before .before .before .pre .0))
 
 slice-aggregate-rank-prefix-2 : tie.Need-slice-aggregate-rank-prefix-2
 slice-aggregate-rank-prefix-2 c = search needs
 
 rank-prefix-requires : tie.Need-rank-prefix-requires
-rank-prefix-requires c κs = (refl, prefix-short (unsettled-held (c .before .before .before .before .pre .0)))
+rank-prefix-requires c κs = (refl, prefix-short (unsettled-well (c .before .before .before .before .pre .0)))
 
 build-index-requires : tie.Need-build-index-requires
 build-index-requires c κs = let p = c .before .before .before .before .before .before .before .pre in (unsettled-well (p .0), p .1)

@@ -1,6 +1,6 @@
 -- An empty clause, no clause, or the first kind with a candidate.
 -- Assumes nothing.
-use mathlib.Core.Path.{refl, sym, _∙_}
+use mathlib.Core.Path.{sym, _∙_}
 use Rattle.meaning.specs.Game.{emptyClause}
 use Rattle.table.proofs.HoldLaws.{count-clauses}
 use Rattle.choice.specs.Chosen.{endAs, nextAs}

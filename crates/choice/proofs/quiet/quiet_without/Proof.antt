@@ -1,6 +1,6 @@
 -- By the two counts, and whether it is a universal.
 -- Assumes nothing.
-use Rattle.choice.proofs.HandLaws.{prefix-part, not-universal}
+use Rattle.choice.proofs.HandLaws.{prefix-held, not-universal}
 use Rattle.choice.proofs.QuietLaws.{quiet-absent, quiet-pure}
 use Rattle.search.proofs.QuietLaws.{quiet-none}
 use borrow.Author.Needs.{needs}
@@ -35,7 +35,7 @@ returns : tie.Need-returns
 returns c = λ φ h k p q. quiet-absent φ (k .well) _ _ q p _ _ (c .before .before .times-in .ensures φ k) (c .before .times-in2 .ensures φ k) (c .if1 .taken)
 
 slice-aggregate-contains : tie.Need-slice-aggregate-contains
-slice-aggregate-contains c = prefix-part (c .before .before .before .before .before .before .pre .0)
+slice-aggregate-contains c = prefix-held (c .before .before .before .before .before .before .pre .0)
 
 add-contains : tie.Need-add-contains
 add-contains c = search needs

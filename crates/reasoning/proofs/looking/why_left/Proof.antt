@@ -1,7 +1,6 @@
 -- By the quantifier of the variable.
 -- Assumes nothing.
 use mathlib.Core.Path.{refl, sym, _∙_}
-use Rattle.table.proofs.HoldLaws.{held}
 use Rattle.choice.proofs.HandLaws.{ranked-is, prefix-part, prefix-short}
 use Rattle.permits.proofs.PlaceLaws.{entries-of}
 use Rattle.reasoning.proofs.StepLaws.{quiet-well, left-ranks, left-universal, left-existential}
@@ -10,13 +9,13 @@ use Rattle.reasoning.proofs.looking.why_left.Statement.{statement}
 use Rattle.reasoning.proofs.looking.why_left.Tie as tie
 
 slice-aggregate-rank-prefix : tie.Need-slice-aggregate-rank-prefix
-slice-aggregate-rank-prefix c = prefix-part (held (c .before .before .before .pre .0 .holds))
+slice-aggregate-rank-prefix c = prefix-part (quiet-well (c .before .before .before .pre .0))
 
 slice-aggregate-rank-prefix-2 : tie.Need-slice-aggregate-rank-prefix-2
 slice-aggregate-rank-prefix-2 c = search needs
 
 rank-prefix-requires : tie.Need-rank-prefix-requires
-rank-prefix-requires c κs = (refl, prefix-short (held (c .before .before .before .before .pre .0 .holds)))
+rank-prefix-requires c κs = (refl, prefix-short (quiet-well (c .before .before .before .before .pre .0)))
 
 slice-aggregate-is-universal : tie.Need-slice-aggregate-is-universal
 slice-aggregate-is-universal c = search needs
