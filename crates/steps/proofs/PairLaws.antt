@@ -1,6 +1,6 @@
 -- Laws of the resolvents.
 -- Assumes nothing.
-use Prim.Native.Nat.{ℕ, _+_, _≤_, _<_}
+use Prim.Native.Nat.{ℕ, _+_, _/_, _≤_, _<_}
 use mathlib.Core.Path.{_≡_, refl, sym, ap, _∙_, subst}
 use mathlib.Core.Bool.{Bool, true, false, _&&_, _||_, not, cond}
 use lib.Dec.{eqb}
@@ -9,7 +9,7 @@ use lib.ListN.{length, getD, take, drop, drop-of-length-le}
 use lib.Seq.{drop-cons}
 use native.Mathlib.Numerals.{add-one}
 use Rattle.meaning.specs.Lists.{allOf, anyOf, keepIf, has, without}
-use Rattle.meaning.specs.Formula.{Formula, var, odd, plain, negated, isVar, mentions}
+use Rattle.meaning.specs.Formula.{Formula, var, odd, opposite, plain, negated, isVar, mentions}
 use Rattle.meaning.specs.Tidy.{buildOn}
 use Rattle.rules.specs.Eliminate.{withLit, resolventsOf, resolvents}
 use Rattle.table.specs.Table.{withRaw, Holds}
@@ -23,8 +23,8 @@ use Rattle.steps.specs.Recipe.{neither, fed}
 use Rattle.steps.specs.Pairs.{eachOf, ofPair, ofClause}
 use Rattle.steps.specs.declared.Turn.the-variants.{Drop}
 use Rattle.table.proofs.HoldLaws.{prefix-is}
-use Rattle.meaning.proofs.Basics.{and-l, and-r}
-use Rattle.meaning.proofs.Literals.{opp-plain}
+use Rattle.meaning.proofs.Basics.{by-cases, and-l, and-r}
+use Rattle.meaning.proofs.Literals.{plain-is, opp-odd, opp-opp, opp-plain}
 use Rattle.meaning.proofs.Prefix.{eqb-plain, eqb-negated}
 use Rattle.steps.proofs.BuildLaws.{built-of, built-there, going-next, going-full, going-end}
 use Rattle.steps.proofs.KindLaws.{fed-drop}
@@ -121,3 +121,20 @@ free-is a c = rw (opp-plain a) (go c)
     go : (c : List ℕ) → (not (has (plain a) c) && not (has (negated a) c)) ≡ not (anyOf (λ q. eqb (var q) a) c)
     go [] = refl
     go (k ∷ c) = one k (has (plain a) c) (has (negated a) c) (anyOf (λ q. eqb (var q) a) c) (eqb-plain a k) (eqb-negated a k) (go c)
+
+-- of either phase
+pub free-of : (l : ℕ) (c : List ℕ) → not (mentions c (l / 2)) ≡ neither l c
+unfolding plain var
+free-of l c =
+    by-cases (odd l)
+    (λ o. sym (turned ∙ ap (λ (x : ℕ). neither x c) (opp-odd l o) ∙ free-is (var l) c))
+    (λ o. sym (ap (λ (x : ℕ). neither x c) (plain-is l o) ∙ free-is (var l) c))
+  where
+    swap : (x y : Bool) → (x && y) ≡ (y && x)
+    swap true true = refl
+    swap true false = refl
+    swap false true = refl
+    swap false false = refl
+
+    turned : neither l c ≡ neither (opposite l) c
+    turned = unfold neither in swap (not (has l c)) (not (has (opposite l) c)) ∙ ap (λ (x : ℕ). not (has (opposite l) c) && not (has x c)) (sym (opp-opp l))

@@ -10,7 +10,7 @@ use lib.Dec.{ltb, leb}
 use borrow.Author.Tests.{eq-eqb, ne-eqb, lt-ltb, le-ltb}
 use native.Mathlib.Omega.{arith}
 use native.Mathlib.Numerals.{add-one}
-use Rattle.meaning.specs.Lists.{allOf, has}
+use Rattle.meaning.specs.Lists.{allOf}
 use Rattle.meaning.specs.Formula.{var, opposite, isVar, mentions}
 use Rattle.rules.specs.Simplify.{replaceLit}
 use Rattle.table.specs.Ranks.{goodEntries}
@@ -18,7 +18,7 @@ use Rattle.table.specs.Pending.{inRange, Pends}
 use Rattle.table.specs.declared.Pending.{Pending}
 use Rattle.permits.specs.Places.{placeFrom, placeOf}
 use Rattle.meaning.specs.WellFormed.{goodPrefix}
-use Rattle.steps.specs.Recipe.{Ready, reaches, neither, less, copyOf, copied, turned, someOf, fed}
+use Rattle.steps.specs.Recipe.{Ready, reaches, less, copyOf, copied, turned, someOf, fed}
 use Rattle.steps.specs.declared.Turn.{Turn}
 use Rattle.table.proofs.RankLaws.{length-ranks}
 use Rattle.table.proofs.PendingLaws.{range-is, range-bounds}
@@ -56,14 +56,6 @@ module _ (q s : List ℕ) (n i : ℕ) (inv : reaches q n s ≡ reaches q n (drop
 pub reaches-end : (q s : List ℕ) (n i : ℕ) → reaches q n s ≡ reaches q n (drop i s) → length s ≤ i → false ≡ reaches q n s
 unfolding reaches
 reaches-end q s n i inv h = any-end (λ l. ltb n (placeOf q (var l))) 0 s i inv h
-
-pub neither-has : (l : ℕ) (c : List ℕ) (r : Bool) → r ≡ has l c → r ≡ true → false ≡ neither l c
-unfolding neither
-neither-has l c r e t = rw (← e, t)
-
-pub neither-other : (l o : ℕ) (c : List ℕ) (r s : Bool) → r ≡ has l c → r ≡ false → o ≡ opposite l → s ≡ has o c → not s ≡ neither l c
-unfolding neither
-neither-other l o c r s e t p k = rw (← e, t, ← p, ← k)
 
 pub far-both : (a b h k : Bool) → h ≡ a → h ≡ true → k ≡ b → not k ≡ (a && not b)
 far-both a b h k e t d = rw (← e, t, ← d)

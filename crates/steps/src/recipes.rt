@@ -34,14 +34,11 @@ fn reaches_behind(clause: &[u16], ranks: &[u16], place: usize) -> bool
     false
 }
 
-// Whether neither the literal nor its opposite is there.
+// Whether neither the literal nor its opposite is there: no literal is of its variable.
 fn has_neither(clause: &[u16], literal: u16) -> bool
     ensures { λ r. ⌜ r ≡ neither literal (now (clause .entry)) ⌝ }
 {
-    if contains(clause, literal) {
-        return false;
-    }
-    !contains(clause, flip(literal))
+    lacks(clause, literal / 2)
 }
 
 // Whether a variable of the clause stands behind a place, and the literal is not there.
