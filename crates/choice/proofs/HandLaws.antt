@@ -19,11 +19,11 @@ use Rattle.table.proofs.DecodeLaws.{decode-holds}
 use Rattle.permits.proofs.PlaceLaws.{entries-of}
 use Rattle.index.specs.Study.{Studied, Study}
 use Rattle.index.specs.Build.{HeldWell, tallyOf, Tallies}
-use Rattle.search.specs.Quiet.{QuietTo}
-use Rattle.search.proofs.QuietLaws.{quiet-none}
+use Rattle.search.specs.Searched.{SearchedTo}
+use Rattle.search.proofs.SearchedLaws.{searched-none}
 use Rattle.weigh.specs.Weights.{NoneSubsumed}
 use Rattle.choice.specs.Chosen as choice
-use Rattle.choice.specs.Chosen.{HeldQuiet, Unsettled, Busy, Unsubsumed, Apart, Ranks}
+use Rattle.choice.specs.Chosen.{HeldSearched, Unsettled, Busy, Unsubsumed, Apart, Ranks}
 
 module _ {t : List ℕ} {c : Counts} {ranks index : List ℕ} where
   module _ {m : ℕ} where
@@ -31,7 +31,7 @@ module _ {t : List ℕ} {c : Counts} {ranks index : List ℕ} where
     busy-study b = record { formula = b .formula; studied = b .studied }
 
     pub busy-unsubsumed : (b : Busy t c ranks index m) → NoneSubsumed (b .formula) → Unsubsumed t c ranks index m
-    busy-unsubsumed b n = record { formula = b .formula; studied = b .studied; apart = n; quiet = b .quiet }
+    busy-unsubsumed b n = record { formula = b .formula; studied = b .studied; apart = n; searched = b .searched }
 
     pub unsubsumed-study : Unsubsumed t c ranks index m → Study t c ranks index
     unsubsumed-study b = record { formula = b .formula; studied = b .studied }
@@ -58,13 +58,13 @@ pub unsettled-well : {t : List ℕ} {c : Counts} {m : ℕ} → Unsettled t c m �
 unsettled-well u = record { formula = u .formula; holds = u .holds; well = u .well }
 
 -- where nothing is known
-pub quiet-start : {t : List ℕ} {c : Counts} → HeldWell t c → HeldQuiet t c 0
-quiet-start k = record { formula = k .formula; holds = k .holds; well = k .well; quiet = quiet-none (k .formula) }
+pub searched-start : {t : List ℕ} {c : Counts} → HeldWell t c → HeldSearched t c 0
+searched-start k = record { formula = k .formula; holds = k .holds; well = k .well; searched = searched-none (k .formula) }
 
 -- a table holds one formula, so what is known of it is known of each that it holds
-pub quiet-held : {φ : Formula} {t : List ℕ} {c : Counts} {m : ℕ} → HeldQuiet t c m → Holds φ t c → QuietTo φ m
-quiet-held {φ} {t} {c} {m} k h =
-    let e : k .formula ≡ φ = sym (decode-holds (k .formula) t c (k .holds)) ∙ decode-holds φ t c h in rw e at (k .quiet)
+pub searched-held : {φ : Formula} {t : List ℕ} {c : Counts} {m : ℕ} → HeldSearched t c m → Holds φ t c → SearchedTo φ m
+searched-held {φ} {t} {c} {m} k h =
+    let e : k .formula ≡ φ = sym (decode-holds (k .formula) t c (k .holds)) ∙ decode-holds φ t c h in rw e at (k .searched)
 
 -- the tally of the formula
 pub tally-of : {φ : Formula} {t tally : List ℕ} {c : Counts} → Holds φ t c → wellFormed φ ≡ true → tally ≡ tallyOf (φ .clauses) → Tallies φ tally

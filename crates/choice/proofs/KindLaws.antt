@@ -21,9 +21,9 @@ use Rattle.rules.proofs.Search.{found-lightest}
 use Rattle.search.specs.Candidates.{foundAs}
 use Rattle.search.specs.declared.Found as search
 use Rattle.search.specs.declared.Found.the-variants.{Nothing, Pair}
-use Rattle.search.specs.Quiet.{QuietTo}
+use Rattle.search.specs.Searched.{SearchedTo}
 use Rattle.meaning.proofs.Basics.{by-cases, or-false}
-use Rattle.choice.specs.Chosen.{endAs, nextAs, bestAs, anyOfKind, bestOf, kindsAfter, stuckAs, nextFrom, QuietAfter, ChosenAs}
+use Rattle.choice.specs.Chosen.{endAs, nextAs, bestAs, anyOfKind, bestOf, kindsAfter, stuckAs, nextFrom, SearchedAfter, ChosenAs}
 use Rattle.choice.specs.declared.Chosen.{Chosen}
 use Rattle.choice.specs.declared.Next.{Next}
 use Rattle.choice.specs.declared.Next.the-variants.{Step}
@@ -51,11 +51,11 @@ unfolding bestAs
 none-is none room too e = (refl, cc)
 none-is (found c d) room too e = let z : _≡_ {A = ℕ} 0 1 = cc in absurd (omega arith)
 
--- a step that the run takes next: n is its entry, and the first q clauses of its result are quiet
-taken : (φ : Formula) (x : rules.Next) (k : Kind) (a b : ℕ) → x ≡ step k a b → (n : ℕ) → n ≡ entry k a b → (q : ℕ) → QuietTo (resultOf φ k a b) q
-    → ChosenAs φ x (record { next = Step n; quiet = q })
+-- a step that the run takes next: n is its entry, and the first q clauses of its result are searched
+taken : (φ : Formula) (x : rules.Next) (k : Kind) (a b : ℕ) → x ≡ step k a b → (n : ℕ) → n ≡ entry k a b → (q : ℕ) → SearchedTo (resultOf φ k a b) q
+    → ChosenAs φ x (record { next = Step n; searched = q })
 unfolding nextAs
-taken φ x k a b e n h q s = rw e (record { next = ap Step h; quiet = s })
+taken φ x k a b e n h q s = rw e (record { next = ap Step h; searched = s })
 
 module _ (E : ℕ) (φ : Formula) (k : Kind) where
   found-next : (a b : ℕ) → candidate E φ k ≡ found a b → nextFrom E φ k ≡ step k a b
@@ -80,8 +80,8 @@ module _ (E : ℕ) (φ : Formula) (k : Kind) (r : search.Found) (is : r ≡ foun
   pair-permitted a b e =
       wanted-permitted E φ k a b (allowed-wanted E φ k a b (find-found E φ k a b (pair-is (candidate E φ k) a b (sym e ∙ is)) .counts))
 
-  pub pair-next : (a b : ℕ) → r ≡ Pair a b → (n : ℕ) → n ≡ entry k a b → (q : ℕ) → QuietTo (resultOf φ k a b) q
-      → ChosenAs φ (nextFrom E φ k) (record { next = Step n; quiet = q })
+  pub pair-next : (a b : ℕ) → r ≡ Pair a b → (n : ℕ) → n ≡ entry k a b → (q : ℕ) → SearchedTo (resultOf φ k a b) q
+      → ChosenAs φ (nextFrom E φ k) (record { next = Step n; searched = q })
   pair-next a b e = taken φ (nextFrom E φ k) k a b (found-next E φ k a b (pair-is (candidate E φ k) a b (sym e ∙ is)))
 
   pub nothing-found : r ≡ Nothing → candidate E φ k ≡ none
@@ -100,8 +100,8 @@ module _ (E : ℕ) (φ : Formula) (k : Kind) (r : Best) (is : r ≡ bestOf E φ 
   best-small fit a e = let f = best-found a e in small E φ k fit a (f .0) (f .1) .0
 
   -- its b is 0
-  pub best-next : costly k ≡ true → (a : ℕ) → r ≡ best.Lightest a → (n : ℕ) → n ≡ entry k a 0 → (q : ℕ) → QuietTo (resultOf φ k a 0) q
-      → ChosenAs φ (nextFrom E φ k) (record { next = Step n; quiet = q })
+  pub best-next : costly k ≡ true → (a : ℕ) → r ≡ best.Lightest a → (n : ℕ) → n ≡ entry k a 0 → (q : ℕ) → SearchedTo (resultOf φ k a 0) q
+      → ChosenAs φ (nextFrom E φ k) (record { next = Step n; searched = q })
   unfolding candidate
   best-next dear a e =
       let f = best-found a e in
@@ -141,17 +141,17 @@ module _ (E : ℕ) (φ : Formula) where
   blocked-is =
       sym (rw (free unit refl, free pure refl, free subsume refl, free strengthen refl, free equality refl, dear resolve refl, dear expand refl) (ap (λ x. anyOfKind E φ resolve || x) (or-false (anyOfKind E φ expand))))
 
-  over-quiet : (b : Bool) → QuietAfter φ (rules.nextOf (stuck b)) 0
+  over-searched : (b : Bool) → SearchedAfter φ (rules.nextOf (stuck b)) 0
   unfolding rules.nextOf
-  over-quiet true = tt
-  over-quiet false = tt
+  over-searched true = tt
+  over-searched false = tt
 
   pub stuck-next : (room too : Bool) → room ≡ anyOfKind E φ resolve → too ≡ anyOfKind E φ expand → (x : Next) → x ≡ stuckAs (room || too)
-      → ChosenAs φ (rules.nextOf (chooseOf E φ (kindsAfter expand))) (record { next = x; quiet = 0 })
+      → ChosenAs φ (rules.nextOf (chooseOf E φ (kindsAfter expand))) (record { next = x; searched = 0 })
   unfolding stuckAs chooseOf kindsAfter
   stuck-next room too d e x h =
       let b : (room || too) ≡ anyBlocked E φ = rw (d, e) blocked-is in
-      record { next = h ∙ ap (λ (y : Bool). nextAs (rules.nextOf (stuck y))) b; quiet = over-quiet (anyBlocked E φ) }
+      record { next = h ∙ ap (λ (y : Bool). nextAs (rules.nextOf (stuck y))) b; searched = over-searched (anyBlocked E φ) }
 
 -- no clause, by their number
 no-clause : (cs : List (List ℕ)) → length cs ≡ 0 → noClause cs ≡ true
@@ -166,13 +166,13 @@ some-clause (c ∷ cs) h = refl
 
 module _ (E : ℕ) (φ : Formula) where
   -- At each point ------------------------------------------------------------------------------------------------
-  pub next-false : emptyClause (φ .clauses) ≡ true → ChosenAs φ (rules.next E φ) (record { next = nextAs (over isFALSE); quiet = 0 })
+  pub next-false : emptyClause (φ .clauses) ≡ true → ChosenAs φ (rules.next E φ) (record { next = nextAs (over isFALSE); searched = 0 })
   unfolding rules.next
-  next-false e = rw e (record { next = refl; quiet = tt })
+  next-false e = rw e (record { next = refl; searched = tt })
 
-  pub next-true : emptyClause (φ .clauses) ≡ false → length (φ .clauses) ≡ 0 → ChosenAs φ (rules.next E φ) (record { next = nextAs (over isTRUE); quiet = 0 })
+  pub next-true : emptyClause (φ .clauses) ≡ false → length (φ .clauses) ≡ 0 → ChosenAs φ (rules.next E φ) (record { next = nextAs (over isTRUE); searched = 0 })
   unfolding rules.next
-  next-true e h = rw (e, no-clause (φ .clauses) h) (record { next = refl; quiet = tt })
+  next-true e h = rw (e, no-clause (φ .clauses) h) (record { next = refl; searched = tt })
 
   pub next-chosen : emptyClause (φ .clauses) ≡ false → (length (φ .clauses) ≡ 0 → ⊥) → nextFrom E φ unit ≡ rules.next E φ
   unfolding rules.next nextFrom kindsAfter choose

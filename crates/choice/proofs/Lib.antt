@@ -2,6 +2,6 @@ pub mod BestLaws
 pub mod HandLaws
 pub mod KindLaws
 pub mod StayLaws
-pub mod QuietLaws
+pub mod SearchedLaws
 pub mod TurnLaws
 pub mod UniversalLaws

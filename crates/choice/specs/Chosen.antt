@@ -17,7 +17,7 @@ use Rattle.table.specs.Table.{Holds}
 use Rattle.table.specs.Ranks.{ranksOf}
 use Rattle.table.specs.declared.Counts.{Counts}
 use Rattle.index.specs.Study.{Studied}
-use Rattle.search.specs.Quiet.{QuietTo}
+use Rattle.search.specs.Searched.{SearchedTo}
 use Rattle.weigh.specs.Weights.{weighedStep, NoneSubsumed}
 use Rattle.weigh.specs.declared.Weighed.{Weighed}
 use Rattle.weigh.specs.declared.Weighed.the-variants.{Over, Fitting, Wide}
@@ -94,26 +94,26 @@ kindsAfter expand = []
 unfoldable pub nextFrom : ℕ → Formula → Kind → rules.Next
 nextFrom E φ k = rules.nextOf (chooseOf E φ (k ∷ kindsAfter k))
 
--- the first n clauses of what comes of it are quiet
-abbrev pub QuietAfter : Formula → rules.Next → ℕ → Type 0
-QuietAfter φ (over e) n = Unit {0}
-QuietAfter φ (step k a b) n = QuietTo (resultOf φ k a b) n
+-- the first n clauses of what comes of it were searched
+abbrev pub SearchedAfter : Formula → rules.Next → ℕ → Type 0
+SearchedAfter φ (over e) n = Unit {0}
+SearchedAfter φ (step k a b) n = SearchedTo (resultOf φ k a b) n
 
 -- the code's answer, where the run does x next
 pub record ChosenAs (φ : Formula) (x : rules.Next) (r : Chosen) : Type 0 where
   pub next : r .next ≡ nextAs x
-  pub quiet : QuietAfter φ x (r .quiet)
+  pub searched : SearchedAfter φ x (r .searched)
 
 unfoldable pub stuckAs : Bool → Next
 stuckAs room = nextAs (rules.nextOf (stuck room))
 
 -- What is at hand, kind by kind --------------------------------------------------------------------------------
--- at the start: the first m clauses are quiet
-pub record HeldQuiet (t : List ℕ) (c : Counts) (m : ℕ) : Type 0 where
+-- at the start: the first m clauses were searched
+pub record HeldSearched (t : List ℕ) (c : Counts) (m : ℕ) : Type 0 where
   pub formula : Formula
   pub holds : Holds formula t c
   pub well : wellFormed formula ≡ true
-  pub quiet : QuietTo formula m
+  pub searched : SearchedTo formula m
 
 -- for kinds 1 and 2: no clause is empty
 pub record Unsettled (t : List ℕ) (c : Counts) (m : ℕ) : Type 0 where
@@ -121,25 +121,25 @@ pub record Unsettled (t : List ℕ) (c : Counts) (m : ℕ) : Type 0 where
   pub holds : Holds formula t c
   pub well : wellFormed formula ≡ true
   pub no-empty : emptyClause (formula .clauses) ≡ false
-  pub quiet : QuietTo formula m
+  pub searched : SearchedTo formula m
 
 -- for kind 3 the same, with the index
 pub record Busy (t : List ℕ) (c : Counts) (ranks index : List ℕ) (m : ℕ) : Type 0 where
   pub formula : Formula
   pub studied : Studied formula t c ranks index
   pub no-empty : emptyClause (formula .clauses) ≡ false
-  pub quiet : QuietTo formula m
+  pub searched : SearchedTo formula m
 
 -- for kind 4: no clause is a part of another
 pub record Unsubsumed (t : List ℕ) (c : Counts) (ranks index : List ℕ) (m : ℕ) : Type 0 where
   pub formula : Formula
   pub studied : Studied formula t c ranks index
   pub apart : NoneSubsumed formula
-  pub quiet : QuietTo formula m
+  pub searched : SearchedTo formula m
 
--- for kinds 5 and 6 the same, and all clauses are quiet
-abbrev pub AllQuiet : Formula → Type 0
-AllQuiet φ = (m : ℕ) → QuietTo φ m
+-- for kinds 5 and 6 the same, and all clauses were searched
+abbrev pub AllSearched : Formula → Type 0
+AllSearched φ = (m : ℕ) → SearchedTo φ m
 
 pub record Apart (t : List ℕ) (c : Counts) (ranks index : List ℕ) : Type 0 where
   pub formula : Formula

@@ -2,7 +2,7 @@
 mod ahead;
 mod kinds;
 mod lightest;
-mod quiet;
+mod searched;
 
 pub use kinds::choose;
 
@@ -20,10 +20,10 @@ pub enum Next {
     Step(u32),
 }
 
-// What the run does next, and how many of the first clauses of the result are known to be quiet: kinds 3 and 4 have no candidate among them.
+// What the run does next, and how many of the first clauses of the result were searched: kinds 3 and 4 have no candidate among them.
 pub struct Chosen {
     pub next: Next,
-    pub quiet: usize,
+    pub searched: usize,
 }
 
 // Of the steps of kind 6 or 7: none counts, and whether one failed only for room; or the variable of the lightest.

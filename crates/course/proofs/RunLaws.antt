@@ -16,8 +16,8 @@ use Rattle.rules.specs.Step.{resultOf, stepped, stepOf}
 use Rattle.rules.specs.Run.{End, isTRUE, isFALSE, finished, outOfRoom, ended, stopped, over, step, next, Ran, ranNothing, logged, halt, onward, runFrom}
 use Rattle.rules.proofs.Next.{Going, going}
 use Rattle.table.proofs.ListLaws.{tail-written}
-use Rattle.search.specs.Quiet.{QuietTo}
-use Rattle.search.proofs.QuietLaws.{quiet-none}
+use Rattle.search.specs.Searched.{SearchedTo}
+use Rattle.search.proofs.SearchedLaws.{searched-none}
 use Rattle.choice.specs.Chosen.{endAs, nextAs}
 use Rattle.choice.specs.declared.Next.{Next}
 use Rattle.choice.specs.declared.Next.the-variants as says
@@ -37,11 +37,11 @@ use Rattle.course.specs.declared.Running.{Running}
 unfoldable pub withLog : List ℕ → Ran → Ran
 withLog es r = record { outcome = r .outcome; final = r .final; log = es ++ r .log }
 
--- n steps of the run from φ are done: ψ stands, its first m clauses are quiet, the entries are in the log, and what is left makes the whole
+-- n steps of the run from φ are done: ψ stands, its first m clauses are searched, the entries are in the log, and what is left makes the whole
 pub record Turns (φ : Formula) (E room : ℕ) (s : Bool) (log₀ a b log : List ℕ) (d : Counts) (n m : ℕ) : Type 0 where
   pub formula : Formula
   pub here : Here formula (sideFrom s n) a b d
-  pub quiet : QuietTo formula m
+  pub searched : SearchedTo formula m
   pub done : List ℕ
   pub count : length done ≡ n
   pub whole : runFrom E room φ ≡ withLog done (runFrom E (room - n) formula)
@@ -116,7 +116,7 @@ module _ (φ : Formula) (E room : ℕ) (s : Bool) (log₀ : List ℕ) where
   -- before the first
   pub turns-start : {a b : List ℕ} {d : Counts} → Here φ s a b d → Turns φ E room s log₀ a b log₀ d 0 0
   unfolding sideFrom withLog logBytes
-  turns-start h = let z : room ≡ room - 0 = omega arith in record { formula = φ; here = h; quiet = quiet-none φ; done = []; count = refl; whole = ap (λ (m : ℕ). runFrom E m φ) z; written = refl }
+  turns-start h = let z : room ≡ room - 0 = omega arith in record { formula = φ; here = h; searched = searched-none φ; done = []; count = refl; whole = ap (λ (m : ℕ). runFrom E m φ) z; written = refl }
 
   module _ {a b log : List ℕ} {d : Counts} {n m : ℕ} (t : Turns φ E room s log₀ a b log d n m) where
     -- the choice leaves the spare table zero
@@ -127,8 +127,8 @@ module _ (φ : Formula) (E room : ℕ) (s : Bool) (log₀ : List ℕ) where
     same-here : {a′ b′ : List ℕ} → Here (t .formula) (sideFrom s n) a′ b′ d → (χ : Formula) → Lends χ a′ b′ d → t .formula ≡ χ
     same-here k χ l = sym (decode-holds (t .formula) _ d (here-lends k .holds)) ∙ decode-holds χ _ d (l .holds)
 
-    pub turns-quiet : (χ : Formula) → Lends χ a b d → QuietTo χ m
-    turns-quiet χ l = rw (same-here (t .here) χ l) at (t .quiet)
+    pub turns-searched : (χ : Formula) → Lends χ a b d → SearchedTo χ m
+    turns-searched χ l = rw (same-here (t .here) χ l) at (t .searched)
 
     -- the step that is chosen is permitted
     pub turns-known : (e : ℕ) → says.Step e ≡ nextAs (next E (t .formula)) → {a′ b′ : List ℕ} → Here (t .formula) (sideFrom s n) a′ b′ d → (χ : Formula) → Lends χ a′ b′ d → Known χ e true
@@ -170,7 +170,7 @@ module _ (φ : Formula) (E room : ℕ) (s : Bool) (log₀ : List ℕ) where
 
     -- one step more
     pub turns-next : (e : ℕ) → says.Step e ≡ nextAs (next E (t .formula)) → n < room → {a′ b′ log′ : List ℕ} {d′ : Counts} {m′ : ℕ}
-        → ((k : Kind) (x y : ℕ) → next E (t .formula) ≡ step k x y → QuietTo (resultOf (t .formula) k x y) m′)
+        → ((k : Kind) (x y : ℕ) → next E (t .formula) ≡ step k x y → SearchedTo (resultOf (t .formula) k x y) m′)
         → ((χ : Formula) → stepOf (t .formula) e ≡ stepped χ → (d′ ≡ countsOf χ (not (d .second))) × Stands χ (not (d .second)) a′ b′)
         → log′ ≡ take (4 * n) log ++ (entryBytes e ++ drop 4 (drop (4 * n) log)) → Turns φ E room s log₀ a′ b′ log′ d′ (n + 1) m′
     unfolding sideFrom withLog logged countsOf
@@ -185,7 +185,7 @@ module _ (φ : Formula) (E room : ℕ) (s : Bool) (log₀ : List ℕ) where
         record {
           formula = χ;
           here = record { stands = rw side at (q .1); counts = q .0 ∙ ap (countsOf χ) side; well = g .kept .well; room = g .kept .room };
-          quiet = i (p .kind) (p .a) (p .b) (p .is);
+          searched = i (p .kind) (p .a) (p .b) (p .is);
           done = t .done ++ (e ∷ []);
           count = length-append (t .done) (e ∷ []) ∙ ap (λ (i : ℕ). i + 1) (t .count);
           whole =

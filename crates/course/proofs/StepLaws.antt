@@ -11,8 +11,8 @@ use Rattle.rules.specs.Step.{stepped, stepOf}
 use Rattle.table.specs.Table.{tableOf, countsOf, emptyFormula, Holds}
 use Rattle.table.specs.declared.Counts.{Counts}
 use Rattle.index.specs.Build.{HeldWell}
-use Rattle.search.specs.Quiet.{QuietTo}
-use Rattle.choice.specs.Chosen.{HeldQuiet}
+use Rattle.search.specs.Searched.{SearchedTo}
+use Rattle.choice.specs.Chosen.{HeldSearched}
 use Rattle.apply.specs.Applied.{Kept, Lends, Lent, Stands, Moves, steppingAs, formulaAfter, sideAfter}
 use Rattle.apply.specs.declared.Stepping.{Stepping}
 use Rattle.apply.specs.declared.Stepping.the-variants.{Stepped, BadEntry, NotPermitted, NoRoom}
@@ -30,15 +30,15 @@ module _ {a b : List ℕ} {c : Counts} (l : Lent a b c) where
   well-first e = let k = lent-first l e in (well-of (k .0), k .1)
 
   -- what the choice asks
-  module _ {m : ℕ} (q : (φ : Formula) → Lends φ a b c → QuietTo φ m) where
-    quiet-of : {t : List ℕ} → Holds (l .formula) t c → HeldQuiet t c m
-    quiet-of h = record { formula = l .formula; holds = h; well = l .lends .well; quiet = q (l .formula) (l .lends) }
+  module _ {m : ℕ} (q : (φ : Formula) → Lends φ a b c → SearchedTo φ m) where
+    searched-of : {t : List ℕ} → Holds (l .formula) t c → HeldSearched t c m
+    searched-of h = record { formula = l .formula; holds = h; well = l .lends .well; searched = q (l .formula) (l .lends) }
 
-    pub quiet-second : c .second ≡ true → HeldQuiet b c m × (length a ≡ 11261)
-    quiet-second e = (quiet-of (lends-second (l .lends) e), l .lends .first-length)
+    pub searched-second : c .second ≡ true → HeldSearched b c m × (length a ≡ 11261)
+    searched-second e = (searched-of (lends-second (l .lends) e), l .lends .first-length)
 
-    pub quiet-first : c .second ≡ false → HeldQuiet a c m × (length b ≡ 11261)
-    quiet-first e = (quiet-of (lends-first (l .lends) e), l .lends .second-length)
+    pub searched-first : c .second ≡ false → HeldSearched a c m × (length b ≡ 11261)
+    searched-first e = (searched-of (lends-first (l .lends) e), l .lends .second-length)
 
 -- the spare table is zero
 module _ {φ : Formula} {a b z : List ℕ} {c : Counts} (l : Lends φ a b c) (is : z ≡ tableOf emptyFormula) where

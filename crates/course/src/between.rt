@@ -7,7 +7,7 @@ ghost use Rattle.rules.specs.Entry.{Kind};
 ghost use Rattle.rules.specs.Step.{resultOf, stepped, stepOf};
 ghost use Rattle.rules.specs.Run as rules;
 ghost use Rattle.table.specs.Table.{countsOf};
-ghost use Rattle.search.specs.Quiet.{QuietTo};
+ghost use Rattle.search.specs.Searched.{SearchedTo};
 ghost use Rattle.choice.specs.Chosen.{nextAs};
 ghost use Rattle.apply.specs.Applied.{Known, Lends, Lent, Stands};
 use apply::Stepping;
@@ -29,21 +29,21 @@ pub fn clear_spare(first: &mut [u16], second: &mut [u16], c: Counts)
     }
 }
 
-// What the run does next, where so many of the first clauses are quiet. The index goes into the spare table, which ends zero.
+// What the run does next, where so many of the first clauses were searched. The index goes into the spare table, which ends zero.
 pub fn choose_between(
     first: &mut [u16],
     second: &mut [u16],
     c: Counts,
     allowance: usize,
-    quiet: usize,
+    searched: usize,
 ) -> Chosen
-    requires { ⌜ Lent (now first) (now second) c × ((φ : Formula) → Lends φ (now first) (now second) c → QuietTo φ quiet) × (allowance ≤ 1000) ⌝ }
-    ensures { λ r. ⌜ ((φ : Formula) → Lends φ (now (first .entry)) (now (second .entry)) c → (r .next ≡ nextAs (rules.next allowance φ)) × ((k : Kind) (a b : ℕ) → rules.next allowance φ ≡ rules.step k a b → QuietTo (resultOf φ k a b) (r .quiet)) × Stands φ (c .second) (now (first .exit)) (now (second .exit))) ⌝ }
+    requires { ⌜ Lent (now first) (now second) c × ((φ : Formula) → Lends φ (now first) (now second) c → SearchedTo φ searched) × (allowance ≤ 1000) ⌝ }
+    ensures { λ r. ⌜ ((φ : Formula) → Lends φ (now (first .entry)) (now (second .entry)) c → (r .next ≡ nextAs (rules.next allowance φ)) × ((k : Kind) (a b : ℕ) → rules.next allowance φ ≡ rules.step k a b → SearchedTo (resultOf φ k a b) (r .searched)) × Stands φ (c .second) (now (first .exit)) (now (second .exit))) ⌝ }
 {
     if c.second {
-        return choose(second, c, first, allowance, quiet);
+        return choose(second, c, first, allowance, searched);
     }
-    choose(first, c, second, allowance, quiet)
+    choose(first, c, second, allowance, searched)
 }
 
 // A step that is permitted, as the run knows, and has room: the record after it.

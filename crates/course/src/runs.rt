@@ -53,9 +53,9 @@ pub fn run(
     clear_spare(first, second, c);
     let mut d = c;
     let mut n = 0;
-    let mut quiet = 0;
+    let mut searched = 0;
     loop {
-        let chosen = choose_between(first, second, d, allowance, quiet);
+        let chosen = choose_between(first, second, d, allowance, searched);
         let next = chosen.next;
         match next {
             Next::Over(end) => {
@@ -76,7 +76,7 @@ pub fn run(
                 let at = 4 * n;
                 put_entry(&mut log[at..], entry);
                 d = advance(first, second, d, entry);
-                quiet = chosen.quiet;
+                searched = chosen.searched;
                 n += 1;
             }
         }

@@ -19,6 +19,7 @@ use crate::far::why_far;
 use crate::weights::why_expand;
 use crate::weights::why_resolve;
 use index::build_index;
+use index::put_tally;
 use permits::expand_permitted;
 use permits::is_universal;
 use table::Counts;
@@ -59,6 +60,7 @@ pub fn why_left(t: &[u16], c: Counts, spare: &mut [u16], v: usize, allowance: us
     if is_universal(&ranks, v) {
         return why_universal(t, c, &ranks, v, allowance);
     }
+    put_tally(t, c, spare);
     build_index(t, c, spare);
     why_existential(t, c, &ranks, spare, v)
 }

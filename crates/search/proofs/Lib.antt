@@ -9,4 +9,4 @@ pub mod WalkLaws
 pub mod LowestLaws
 pub mod SignedLaws
 pub mod StrengthenLaws
-pub mod QuietLaws
+pub mod SearchedLaws

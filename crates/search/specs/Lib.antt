@@ -1,2 +1,2 @@
 pub mod Candidates
-pub mod Quiet
+pub mod Searched

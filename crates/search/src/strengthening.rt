@@ -14,7 +14,7 @@ ghost use Rattle.table.specs.Table.{Holds, Held};
 ghost use Rattle.table.specs.Ranks.{ranksOf};
 ghost use Rattle.index.specs.Study.{Studied, Study};
 ghost use Rattle.search.specs.Candidates.{foundAs, Signed, lowerIf, lowest, Lowest};
-ghost use Rattle.search.specs.Quiet.{QuietTo, Alone};
+ghost use Rattle.search.specs.Searched.{SearchedTo, Alone};
 use crate::Found;
 use crate::merges::strengthens_part;
 use crate::rarity::rarest_variable;
@@ -220,12 +220,12 @@ fn is_apart(t: &[u16], c: Counts, ranks: &[u16], index: &[u16], b: usize) -> boo
     true
 }
 
-// Whether the clauses from number `quiet` on are all apart: then there is no candidate, where those before are quiet.
-fn none_new(t: &[u16], c: Counts, ranks: &[u16], index: &[u16], quiet: usize) -> bool
+// Whether the clauses from number `searched` on are all apart. Then there is no candidate, if there is none among those before.
+fn none_new(t: &[u16], c: Counts, ranks: &[u16], index: &[u16], searched: usize) -> bool
     requires { ⌜ Study (now t) c (now ranks) (now index) ⌝ }
-    ensures { λ r. ⌜ ((φ : Formula) (E : ℕ) → Studied φ (now (t .entry)) c (now (ranks .entry)) (now (index .entry)) → QuietTo φ quiet → r ≡ true → candidate E φ rules.strengthen ≡ none) ⌝ }
+    ensures { λ r. ⌜ ((φ : Formula) (E : ℕ) → Studied φ (now (t .entry)) c (now (ranks .entry)) (now (index .entry)) → SearchedTo φ searched → r ≡ true → candidate E φ rules.strengthen ≡ none) ⌝ }
 {
-    let mut b = quiet;
+    let mut b = searched;
     while b < c.clauses {
         if is_apart(t, c, ranks, index, b) {
             b += 1;
@@ -236,14 +236,14 @@ fn none_new(t: &[u16], c: Counts, ranks: &[u16], index: &[u16], quiet: usize) ->
     true
 }
 
-// The first `quiet` clauses are known to be quiet (0: nothing is known). Where they are, the others are looked at first: mostly these
-// show that there is no candidate.
-pub fn find_strengthen(t: &[u16], c: Counts, ranks: &[u16], index: &[u16], quiet: usize) -> Found
+// Among the first `searched` clauses there is no candidate, as the caller knows (0: nothing is known). Then the others are looked at first:
+// mostly these show that there is none at all.
+pub fn find_strengthen(t: &[u16], c: Counts, ranks: &[u16], index: &[u16], searched: usize) -> Found
     requires { ⌜ Study (now t) c (now ranks) (now index) ⌝ }
-    ensures { λ r. ⌜ ((φ : Formula) (E : ℕ) → Studied φ (now (t .entry)) c (now (ranks .entry)) (now (index .entry)) → QuietTo φ quiet → r ≡ foundAs (candidate E φ rules.strengthen)) ⌝ }
+    ensures { λ r. ⌜ ((φ : Formula) (E : ℕ) → Studied φ (now (t .entry)) c (now (ranks .entry)) (now (index .entry)) → SearchedTo φ searched → r ≡ foundAs (candidate E φ rules.strengthen)) ⌝ }
 {
-    if quiet != 0 {
-        if none_new(t, c, ranks, index, quiet) {
+    if searched != 0 {
+        if none_new(t, c, ranks, index, searched) {
             return Found::Nothing;
         }
     }

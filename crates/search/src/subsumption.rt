@@ -14,7 +14,7 @@ ghost use Rattle.rules.specs.Choice.{none, firstB, candidate};
 ghost use Rattle.table.specs.Table.{Holds, Held};
 ghost use Rattle.index.specs.Index.{Indexes, Indexed};
 ghost use Rattle.search.specs.Candidates.{foundAs, firstFor, Signed};
-ghost use Rattle.search.specs.Quiet.{QuietTo, Alone};
+ghost use Rattle.search.specs.Searched.{SearchedTo, Alone};
 use crate::Found;
 use crate::merges::is_part;
 use crate::rarity::rarest;
@@ -190,13 +190,13 @@ fn is_apart(t: &[u16], c: Counts, index: &[u16], b: usize) -> bool
     }
 }
 
-// Whether the clauses from number `quiet` on are all apart: then there is no candidate, where those before are quiet.
-fn none_new(t: &[u16], c: Counts, index: &[u16], quiet: usize) -> bool
+// Whether the clauses from number `searched` on are all apart. Then there is no candidate, if there is none among those before.
+fn none_new(t: &[u16], c: Counts, index: &[u16], searched: usize) -> bool
     requires { ⌜ Held (now t) c ⌝ }
     requires { ⌜ Indexed (now index) ⌝ }
-    ensures { λ r. ⌜ ((φ : Formula) (E : ℕ) → Holds φ (now (t .entry)) c → Indexes φ (now (index .entry)) → emptyClause (φ .clauses) ≡ false → QuietTo φ quiet → r ≡ true → candidate E φ rules.subsume ≡ none) ⌝ }
+    ensures { λ r. ⌜ ((φ : Formula) (E : ℕ) → Holds φ (now (t .entry)) c → Indexes φ (now (index .entry)) → emptyClause (φ .clauses) ≡ false → SearchedTo φ searched → r ≡ true → candidate E φ rules.subsume ≡ none) ⌝ }
 {
-    let mut b = quiet;
+    let mut b = searched;
     while b < c.clauses {
         if is_apart(t, c, index, b) {
             b += 1;
@@ -207,15 +207,15 @@ fn none_new(t: &[u16], c: Counts, index: &[u16], quiet: usize) -> bool
     true
 }
 
-// The first `quiet` clauses are known to be quiet (0: nothing is known). Where they are, the others are looked at first: mostly these
-// show that there is no candidate. No clause may be empty: then the formula is false, and no step is looked for.
-pub fn find_subsume(t: &[u16], c: Counts, index: &[u16], quiet: usize) -> Found
+// Among the first `searched` clauses there is no candidate, as the caller knows (0: nothing is known). Then the others are looked at first:
+// mostly these show that there is none at all. No clause may be empty: then the formula is false, and no step is looked for.
+pub fn find_subsume(t: &[u16], c: Counts, index: &[u16], searched: usize) -> Found
     requires { ⌜ Held (now t) c ⌝ }
     requires { ⌜ Indexed (now index) ⌝ }
-    ensures { λ r. ⌜ ((φ : Formula) (E : ℕ) → Holds φ (now (t .entry)) c → Indexes φ (now (index .entry)) → emptyClause (φ .clauses) ≡ false → QuietTo φ quiet → r ≡ foundAs (candidate E φ rules.subsume)) ⌝ }
+    ensures { λ r. ⌜ ((φ : Formula) (E : ℕ) → Holds φ (now (t .entry)) c → Indexes φ (now (index .entry)) → emptyClause (φ .clauses) ≡ false → SearchedTo φ searched → r ≡ foundAs (candidate E φ rules.subsume)) ⌝ }
 {
-    if quiet != 0 {
-        if none_new(t, c, index, quiet) {
+    if searched != 0 {
+        if none_new(t, c, index, searched) {
             return Found::Nothing;
         }
     }

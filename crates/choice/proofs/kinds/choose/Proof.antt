@@ -1,6 +1,6 @@
 -- What is known of the formula in the table is known of each that it holds.
 -- Assumes nothing.
-use Rattle.choice.proofs.HandLaws.{quiet-held}
+use Rattle.choice.proofs.HandLaws.{searched-held}
 use borrow.Author.Needs.{needs}
 use Rattle.choice.proofs.kinds.choose.Statement.{statement}
 use Rattle.choice.proofs.kinds.choose.Tie as tie
@@ -18,7 +18,7 @@ returns : tie.Need-returns
 returns c =
     let d = c .before .before .before .before .before .before in
     let k = d .before .before .before .before .pre .0 in
-    (λ φ h w. d .decide .ensures φ h w (quiet-held k h) .next, (λ φ i a b h w e. rw e at (d .decide .ensures φ h w (quiet-held k h) .quiet), search needs))
+    (λ φ h w. d .decide .ensures φ h w (searched-held k h) .next, (λ φ i a b h w e. rw e at (d .decide .ensures φ h w (searched-held k h) .searched), search needs))
 
 pub choose-spec : {M : Type 1} → statement M
 choose-spec =

@@ -5,7 +5,7 @@ use native.Mathlib.Omega.{arith}
 use Rattle.rules.specs.Entry.{equality, code}
 use Rattle.index.proofs.ReadLaws.{studied-indexes, study-indexed}
 use Rattle.search.proofs.StudyLaws.{study-held}
-use Rattle.search.proofs.QuietLaws.{quiet-none}
+use Rattle.search.proofs.SearchedLaws.{searched-none}
 use Rattle.choice.specs.Chosen.{kindsAfter, nextFrom}
 use Rattle.choice.proofs.HandLaws.{apart-study}
 use Rattle.choice.proofs.KindLaws.{pair-small, pair-next, nothing-next}
@@ -35,7 +35,7 @@ returns : tie.Need-returns
 unfolding code
 returns c =
     let f = c .before .before .before .before in
-    λ φ s n q. pair-next _ φ equality _ (f .find-equality .ensures φ _ (s .holds) (studied-indexes s)) _ _ (c .before .before .a .given .1) _ (c .entry-of .ensures equality refl) _ (quiet-none _)
+    λ φ s n q. pair-next _ φ equality _ (f .find-equality .ensures φ _ (s .holds) (studied-indexes s)) _ _ (c .before .before .a .given .1) _ (c .entry-of .ensures equality refl) _ (searched-none _)
 
 returns-2 : tie.Need-returns-2
 unfolding nextFrom kindsAfter

@@ -4,7 +4,7 @@ use mathlib.Core.Path.{refl}
 use native.Mathlib.Omega.{arith}
 use Rattle.rules.specs.Entry.{expand, code}
 use Rattle.rules.specs.Choice.{costly}
-use Rattle.search.proofs.QuietLaws.{quiet-none}
+use Rattle.search.proofs.SearchedLaws.{searched-none}
 use Rattle.choice.proofs.KindLaws.{best-small, best-next, best-none, best-later, stuck-next}
 use borrow.Author.Needs.{needs}
 use Rattle.choice.proofs.kinds.choose_expand.Statement.{statement}
@@ -30,7 +30,7 @@ stuck-requires c κs = search needs
 
 returns : tie.Need-returns
 unfolding costly code
-returns c = let b = c .before .before .before .before in λ φ r h. best-next _ φ expand _ (b .best-expand .ensures φ r) refl _ (c .before .before .a .given .1) _ (c .entry-of .ensures expand refl) _ (quiet-none _)
+returns c = let b = c .before .before .before .before in λ φ r h. best-next _ φ expand _ (b .best-expand .ensures φ r) refl _ (c .before .before .a .given .1) _ (c .entry-of .ensures expand refl) _ (searched-none _)
 
 returns-2 : tie.Need-returns-2
 returns-2 c =

@@ -16,7 +16,7 @@ rank-prefix-requires : tie.Need-rank-prefix-requires
 rank-prefix-requires c κs = (refl, prefix-short (unsettled-well (c .before .before .before .before .pre .0)))
 
 build-index-requires : tie.Need-build-index-requires
-build-index-requires c κs = let p = c .before .before .before .before .before .before .before .pre in (unsettled-well (p .0), p .1)
+build-index-requires c κs = let p = c .before .before .before .before .before .before .before .pre in (unsettled-well (p .0), (p .1, p .3))
 
 slice-aggregate-choose-subsume : tie.Need-slice-aggregate-choose-subsume
 slice-aggregate-choose-subsume c = search needs
@@ -32,7 +32,7 @@ choose-subsume-requires c κs =
         formula = p .0 .formula;
         studied = record { holds = h; well = w; ranked = ranked-is h w (r .rank-prefix .ensures); indexed = b .build-index .ensures (p .0 .formula) h w };
         no-empty = p .0 .no-empty;
-        quiet = p .0 .quiet;
+        searched = p .0 .searched;
       },
       p .2,
     )

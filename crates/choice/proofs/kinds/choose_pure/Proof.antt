@@ -1,6 +1,6 @@
 -- By the candidate of kind 2, from the tally; without one, by the kinds after it.
 -- Assumes nothing.
-use mathlib.Core.Path.{refl}
+use mathlib.Core.Path.{refl, _∙_}
 use native.Mathlib.Omega.{arith}
 use Rattle.rules.specs.Entry.{pure, code}
 use Rattle.rules.specs.Step.{permitted, rawOf, resultOf}
@@ -32,8 +32,8 @@ entry-of-requires c κs =
     let i = f .find-pure .ensures (p .formula) 0 (p .holds) (tally-of (p .holds) (p .well) (k .put-tally .ensures (p .formula) (p .holds) (p .well))) in
     let q = pair-small 0 (p .formula) pure _ i (p .holds .fitting) _ _ (c .before .a .given .1) in (omega arith, q .0, q .1)
 
-quiet-without-requires : tie.Need-quiet-without-requires
-quiet-without-requires c κs =
+searched-without-requires : tie.Need-searched-without-requires
+searched-without-requires c κs =
     let f = c .before .before .before .before .before in
     let k = f .before .before .before .before in
     let p = k .before .before .before .before .pre .0 in
@@ -45,7 +45,10 @@ enum-told : tie.Need-enum-told
 enum-told c = search needs
 
 choose-indexed-requires : tie.Need-choose-indexed-requires
-choose-indexed-requires c κs = search needs
+choose-indexed-requires c κs =
+    let k = c .before .before .before .before .before .before .before in
+    let p = k .before .before .before .before .pre in
+    (p .0, k .put-tally .kept .1 .1 .0 ∙ p .1, p .2, k .put-tally .ensures)
 
 same-length : tie.Need-same-length
 same-length c = search needs
@@ -59,7 +62,7 @@ returns c =
     let g = e .before .before .a .given .1 in
     λ φ h w n q. let t = tally-of h w (k .put-tally .ensures φ h w) in
     let i = f .find-pure .ensures φ _ h t in
-    pair-next _ φ pure _ i _ _ g _ (e .entry-of .ensures pure refl) _ (c .quiet-without .ensures φ h t (pair-permitted _ φ pure _ i _ _ g) q)
+    pair-next _ φ pure _ i _ _ g _ (e .entry-of .ensures pure refl) _ (c .searched-without .ensures φ h t (pair-permitted _ φ pure _ i _ _ g) q)
 
 same-length-2 : tie.Need-same-length-2
 same-length-2 c = search needs
@@ -80,7 +83,7 @@ choose-pure-spec =
     find-pure-requires
     enum-known-a
     entry-of-requires
-    quiet-without-requires
+    searched-without-requires
     enum-told
     choose-indexed-requires
     same-length

@@ -9,7 +9,7 @@ use Rattle.index.proofs.ReadLaws.{studied-indexes, study-indexed}
 use Rattle.choice.specs.Chosen.{kindsAfter, nextFrom}
 use Rattle.choice.proofs.HandLaws.{apart-study, studied-ranks, apart-ranked}
 use Rattle.choice.proofs.KindLaws.{best-small, best-next, best-none, best-later}
-use Rattle.choice.proofs.QuietLaws.{quiet-resolve}
+use Rattle.choice.proofs.SearchedLaws.{searched-resolve}
 use borrow.Author.Needs.{needs}
 use Rattle.choice.proofs.kinds.choose_resolve.Statement.{statement}
 use Rattle.choice.proofs.kinds.choose_resolve.Tie as tie
@@ -50,7 +50,7 @@ returns c =
     let k = c .before .before in
     let b = k .before .before .before .before in
     λ φ s n q. best-next _ φ resolve _ (b .best-resolve .ensures φ _ s) refl _ (k .before .before .a .given .1) _ (k .entry-of .ensures resolve refl) _
-    (quiet-resolve φ (s .well) _ _ (q _) (count-clauses (s .holds)) _ (c .before .clauses-of .ensures φ (studied-indexes s)) _ (c .less .ensures))
+    (searched-resolve φ (s .well) _ _ (q _) (count-clauses (s .holds)) _ (c .before .clauses-of .ensures φ (studied-indexes s)) _ (c .less .ensures))
 
 returns-2 : tie.Need-returns-2
 unfolding nextFrom kindsAfter

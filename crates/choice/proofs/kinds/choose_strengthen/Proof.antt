@@ -1,14 +1,14 @@
--- By the candidate of kind 4; without one, by the kinds after it, and all clauses are quiet.
+-- By the candidate of kind 4; without one, by the kinds after it, and all clauses are searched.
 -- Assumes nothing.
 use mathlib.Core.Path.{refl}
 use native.Mathlib.Omega.{arith}
 use Rattle.rules.specs.Entry.{strengthen, code}
 use Rattle.rules.specs.Step.{permitted}
-use Rattle.search.proofs.QuietLaws.{quiet-of, strengthen-none}
+use Rattle.search.proofs.SearchedLaws.{searched-of, strengthen-none}
 use Rattle.choice.specs.Chosen.{kindsAfter, nextFrom}
 use Rattle.choice.proofs.HandLaws.{unsubsumed-study, unsubsumed-apart}
 use Rattle.choice.proofs.KindLaws.{pair-small, pair-permitted, pair-next, nothing-found, nothing-next}
-use Rattle.choice.proofs.QuietLaws.{quiet-strengthen}
+use Rattle.choice.proofs.SearchedLaws.{searched-strengthen}
 use borrow.Author.Needs.{needs}
 use Rattle.choice.proofs.kinds.choose_strengthen.Statement.{statement}
 use Rattle.choice.proofs.kinds.choose_strengthen.Tie as tie
@@ -23,7 +23,7 @@ entry-of-requires : tie.Need-entry-of-requires
 entry-of-requires c κs =
     let f = c .before .before .before in
     let p = f .before .before .before .before .pre .0 in
-    let q = pair-small 0 (p .formula) strengthen _ (f .find-strengthen .ensures (p .formula) 0 (p .studied) (p .quiet)) (p .studied .holds .fitting) _ _ (c .before .a .given .1) in (omega arith, q .0, q .1)
+    let q = pair-small 0 (p .formula) strengthen _ (f .find-strengthen .ensures (p .formula) 0 (p .studied) (p .searched)) (p .studied .holds .fitting) _ _ (c .before .a .given .1) in (omega arith, q .0, q .1)
 
 lower-requires : tie.Need-lower-requires
 lower-requires c κs = search needs
@@ -42,7 +42,7 @@ returns c =
     let e = k .before .before .a .given .1 in
     λ φ s n q. let i = f .find-strengthen .ensures φ _ s q in
     pair-next _ φ strengthen _ i _ _ e _ (k .entry-of .ensures strengthen refl) _
-    (quiet-strengthen φ (s .well) _ _ (pair-permitted _ φ strengthen _ i _ _ e) _ q _ (c .lower .ensures))
+    (searched-strengthen φ (s .well) _ _ (pair-permitted _ φ strengthen _ i _ _ e) _ q _ (c .lower .ensures))
 
 returns-2 : tie.Need-returns-2
 unfolding nextFrom kindsAfter
@@ -50,7 +50,7 @@ returns-2 c =
     let f = c .before .before .before in
     let e = c .before .enum-told .given .1 in
     λ φ s n q. let i = f .find-strengthen .ensures φ _ s q in
-    nothing-next _ φ strengthen _ i e _ (c .choose-equality .ensures φ s n (quiet-of φ n (strengthen-none _ φ (nothing-found _ φ strengthen _ i e))))
+    nothing-next _ φ strengthen _ i e _ (c .choose-equality .ensures φ s n (searched-of φ n (strengthen-none _ φ (nothing-found _ φ strengthen _ i e))))
 
 pub choose-strengthen-spec : {M : Type 1} → statement M
 choose-strengthen-spec =

@@ -5,11 +5,11 @@ use native.Mathlib.Omega.{arith}
 use Rattle.rules.specs.Entry.{subsume, code}
 use Rattle.index.proofs.ReadLaws.{studied-indexes, study-indexed}
 use Rattle.search.proofs.StudyLaws.{study-held}
-use Rattle.search.proofs.QuietLaws.{subsume-none}
+use Rattle.search.proofs.SearchedLaws.{subsume-none}
 use Rattle.choice.specs.Chosen.{kindsAfter, nextFrom}
 use Rattle.choice.proofs.HandLaws.{busy-study, busy-unsubsumed}
 use Rattle.choice.proofs.KindLaws.{pair-small, pair-next, nothing-found, nothing-next}
-use Rattle.choice.proofs.QuietLaws.{quiet-subsume}
+use Rattle.choice.proofs.SearchedLaws.{searched-subsume}
 use borrow.Author.Needs.{needs}
 use Rattle.choice.proofs.kinds.choose_subsume.Statement.{statement}
 use Rattle.choice.proofs.kinds.choose_subsume.Tie as tie
@@ -24,7 +24,7 @@ entry-of-requires : tie.Need-entry-of-requires
 entry-of-requires c κs =
     let f = c .before .before .before in
     let p = f .before .before .before .before .pre .0 in
-    let q = pair-small 0 (p .formula) subsume _ (f .find-subsume .ensures (p .formula) 0 (p .studied .holds) (studied-indexes (p .studied)) (p .no-empty) (p .quiet)) (p .studied .holds .fitting) _ _ (c .before .a .given .1) in (omega arith, q .0, q .1)
+    let q = pair-small 0 (p .formula) subsume _ (f .find-subsume .ensures (p .formula) 0 (p .studied .holds) (studied-indexes (p .studied)) (p .no-empty) (p .searched)) (p .studied .holds .fitting) _ _ (c .before .a .given .1) in (omega arith, q .0, q .1)
 
 less-requires : tie.Need-less-requires
 less-requires c κs = search needs
@@ -36,7 +36,7 @@ choose-strengthen-requires : tie.Need-choose-strengthen-requires
 choose-strengthen-requires c κs =
     let f = c .before .before in
     let p = f .before .before .before .before .pre in
-    let i = f .find-subsume .ensures (p .0 .formula) 0 (p .0 .studied .holds) (studied-indexes (p .0 .studied)) (p .0 .no-empty) (p .0 .quiet) in
+    let i = f .find-subsume .ensures (p .0 .formula) 0 (p .0 .studied .holds) (studied-indexes (p .0 .studied)) (p .0 .no-empty) (p .0 .searched) in
     (busy-unsubsumed (p .0) (subsume-none 0 (p .0 .formula) (nothing-found 0 (p .0 .formula) subsume _ i (c .enum-told .given .1))), p .1)
 
 returns : tie.Need-returns
@@ -45,7 +45,7 @@ returns c =
     let k = c .before in
     let f = k .before .before .before .before in
     λ φ s n q. pair-next _ φ subsume _ (f .find-subsume .ensures φ _ (s .holds) (studied-indexes s) n q) _ _ (k .before .before .a .given .1) _ (k .entry-of .ensures subsume refl) _
-    (quiet-subsume φ (s .well) _ _ _ q _ (c .less .ensures))
+    (searched-subsume φ (s .well) _ _ _ q _ (c .less .ensures))
 
 returns-2 : tie.Need-returns-2
 unfolding nextFrom kindsAfter

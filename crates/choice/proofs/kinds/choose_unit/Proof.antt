@@ -4,7 +4,7 @@ use mathlib.Core.Path.{refl}
 use native.Mathlib.Omega.{arith}
 use Rattle.rules.specs.Entry.{unit, code}
 use Rattle.table.proofs.HoldLaws.{held}
-use Rattle.search.proofs.QuietLaws.{quiet-none}
+use Rattle.search.proofs.SearchedLaws.{searched-none}
 use Rattle.choice.specs.Chosen.{kindsAfter, nextFrom}
 use Rattle.choice.proofs.KindLaws.{pair-small, pair-next, nothing-next}
 use borrow.Author.Needs.{needs}
@@ -33,7 +33,7 @@ returns : tie.Need-returns
 unfolding code
 returns c =
     let f = c .before .before .before .before in
-    λ φ h w n q. pair-next _ φ unit _ (f .find-unit .ensures φ _ h) _ _ (c .before .before .a .given .1) _ (c .entry-of .ensures unit refl) _ (quiet-none _)
+    λ φ h w n q. pair-next _ φ unit _ (f .find-unit .ensures φ _ h) _ _ (c .before .before .a .given .1) _ (c .entry-of .ensures unit refl) _ (searched-none _)
 
 same-length : tie.Need-same-length
 same-length c = search needs

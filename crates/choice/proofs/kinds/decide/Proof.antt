@@ -29,7 +29,7 @@ choose-unit-requires c κs =
     let e = c .before .before .before in
     let p = e .before .before .before .before .before .pre in
     let k = p .0 in
-    (record { formula = k .formula; holds = k .holds; well = k .well; no-empty = sym (e .before .is-present .ensures (k .formula) (k .holds)) ∙ e .if1 .left; quiet = k .quiet }, p .1, p .2)
+    (record { formula = k .formula; holds = k .holds; well = k .well; no-empty = sym (e .before .is-present .ensures (k .formula) (k .holds)) ∙ e .if1 .left; searched = k .searched }, p .1, p .2)
 
 same-length : tie.Need-same-length
 same-length c = search needs

@@ -8,18 +8,18 @@ use Rattle.meaning.specs.Formula.{Formula}
 use Rattle.rules.specs.Run.{run}
 use Rattle.course.specs.Course.{Here}
 use Rattle.course.proofs.HereLaws.{here-lends, here-lent, lends-here}
-use Rattle.course.proofs.RunLaws.{Turns, turns-start, turns-chosen, turns-quiet, turns-known, turns-over, turns-stopped, turns-next, entry-written}
+use Rattle.course.proofs.RunLaws.{Turns, turns-start, turns-chosen, turns-searched, turns-known, turns-over, turns-stopped, turns-next, entry-written}
 use borrow.Author.Needs.{needs}
 use Rattle.course.proofs.runs.run.Statement.{statement}
 use Rattle.course.proofs.runs.run.Tie as tie
 
 abbrev Inv-loop : tie.InvT-loop
-Inv-loop first₀ second₀ allowance limit log₀ room d₀ n₀ quiet₀ first second log d n quiet =
+Inv-loop first₀ second₀ allowance limit log₀ room d₀ n₀ searched₀ first second log d n searched =
     (n ≤ room) × (length first ≡ length first₀) × (length second ≡ length second₀) × (length log ≡ length log₀)
-    × ((φ : Formula) → Here φ (d₀ .second) first₀ second₀ d₀ → Turns φ allowance room (d₀ .second) log₀ first second log d n quiet)
+    × ((φ : Formula) → Here φ (d₀ .second) first₀ second₀ d₀ → Turns φ allowance room (d₀ .second) log₀ first second log d n searched)
 
 abbrev μ-loop : tie.MeasureT-loop
-μ-loop first₀ second₀ allowance limit log₀ room d₀ n₀ quiet₀ first second log d n quiet = room - n
+μ-loop first₀ second₀ allowance limit log₀ room d₀ n₀ searched₀ first second log d n searched = room - n
 
 smaller-requires : tie.Need-smaller-requires Inv-loop μ-loop
 smaller-requires c κs = search needs
@@ -31,7 +31,7 @@ loop-holds : tie.Need-loop-holds Inv-loop μ-loop
 loop-holds c = (omega arith, refl, refl, refl, λ φ h. turns-start φ _ _ _ _ h)
 
 choose-between-requires : tie.Need-choose-between-requires Inv-loop μ-loop
-choose-between-requires c κs = let l = c .before .before in let p = l .before .before .before .before .before .before .before .before .before .before .before .before .pre in let t = l .loop .inv .4 (p .0 .formula) (lends-here (p .0 .lends) (l .before .before .before .before .before .clear-spare .ensures (p .0 .formula) (p .0 .lends))) in (here-lent (t .here), turns-quiet (p .0 .formula) _ _ _ _ t, p .1)
+choose-between-requires c κs = let l = c .before .before in let p = l .before .before .before .before .before .before .before .before .before .before .before .before .pre in let t = l .loop .inv .4 (p .0 .formula) (lends-here (p .0 .lends) (l .before .before .before .before .before .clear-spare .ensures (p .0 .formula) (p .0 .lends))) in (here-lent (t .here), turns-searched (p .0 .formula) _ _ _ _ t, p .1)
 
 enum-known-next : tie.Need-enum-known-next Inv-loop μ-loop
 enum-known-next c = search needs

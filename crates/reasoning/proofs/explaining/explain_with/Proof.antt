@@ -2,14 +2,14 @@
 -- Assumes nothing.
 use mathlib.Core.Path.{ap, _∙_}
 use Rattle.choice.specs.declared.Next.the-variants as next
-use Rattle.choice.proofs.HandLaws.{quiet-start}
+use Rattle.choice.proofs.HandLaws.{searched-start}
 use Rattle.reasoning.proofs.NextLaws.{says-true, says-false, finished-quiet, roomless-quiet, says-next, dear-quiet, says-left}
 use borrow.Author.Needs.{needs}
 use Rattle.reasoning.proofs.explaining.explain_with.Statement.{statement}
 use Rattle.reasoning.proofs.explaining.explain_with.Tie as tie
 
 choose-requires : tie.Need-choose-requires
-choose-requires c κs = let p = c .before .before .before .pre in (quiet-start (p .0), p .1, p .2)
+choose-requires c κs = let p = c .before .before .before .pre in (searched-start (p .0), p .1, p .2)
 
 enum-known-next : tie.Need-enum-known-next
 enum-known-next c = search needs

@@ -3,7 +3,7 @@
 use mathlib.Core.Path.{refl}
 use Rattle.meaning.proofs.Basics.{clash}
 use Rattle.search.proofs.StudyLaws.{study-held}
-use Rattle.search.proofs.QuietLaws.{strengthen-alone}
+use Rattle.search.proofs.SearchedLaws.{strengthen-alone}
 use borrow.Author.Needs.{needs}
 use Rattle.search.proofs.strengthening.is_apart.Statement.{statement}
 use Rattle.search.proofs.strengthening.is_apart.Tie as tie

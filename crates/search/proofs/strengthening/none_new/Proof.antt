@@ -1,4 +1,4 @@
--- The loop's invariant: where the first clauses are quiet, no pair of clauses before b is permitted.
+-- The loop's invariant: where the first clauses are searched, no pair of clauses before b is permitted.
 -- Assumes nothing.
 use Prim.Native.Nat.{_-_}
 use mathlib.Core.Path.{refl}
@@ -6,21 +6,21 @@ use native.Mathlib.Omega.{arith}
 use Rattle.meaning.specs.Formula.{Formula}
 use Rattle.rules.specs.Simplify.{strengthenPermitted}
 use Rattle.index.specs.Study.{Studied}
-use Rattle.search.specs.Quiet.{QuietTo}
+use Rattle.search.specs.Searched.{SearchedTo}
 use Rattle.meaning.proofs.Basics.{clash}
 use Rattle.table.proofs.HoldLaws.{bounds}
 use Rattle.search.proofs.StudyLaws.{study-held}
-use Rattle.search.proofs.QuietLaws.{Calm, calm-strengthen, calm-turn, strengthen-end}
+use Rattle.search.proofs.SearchedLaws.{Calm, calm-strengthen, calm-turn, strengthen-end}
 use borrow.Author.Needs.{needs}
 use Rattle.search.proofs.strengthening.none_new.Statement.{statement}
 use Rattle.search.proofs.strengthening.none_new.Tie as tie
 use Rattle.search.proofs.strengthening.is_apart.Reads as is-apart-reads
 
 abbrev Inv-loop : tie.InvT-loop
-Inv-loop t c ranks index quiet b₀ b = (φ : Formula) → Studied φ t c ranks index → QuietTo φ quiet → Calm (strengthenPermitted φ) b
+Inv-loop t c ranks index searched b₀ b = (φ : Formula) → Studied φ t c ranks index → SearchedTo φ searched → Calm (strengthenPermitted φ) b
 
 abbrev μ-loop : tie.MeasureT-loop
-μ-loop t c ranks index quiet b₀ b = c .clauses - b
+μ-loop t c ranks index searched b₀ b = c .clauses - b
 
 loop-holds : tie.Need-loop-holds Inv-loop μ-loop
 loop-holds c = λ φ s q. calm-strengthen φ _ q

@@ -2,7 +2,7 @@
 -- Assumes nothing.
 use mathlib.Core.Path.{refl}
 use Rattle.meaning.proofs.Basics.{clash}
-use Rattle.search.proofs.QuietLaws.{subsume-alone}
+use Rattle.search.proofs.SearchedLaws.{subsume-alone}
 use borrow.Author.Needs.{needs}
 use Rattle.search.proofs.subsumption.is_apart.Statement.{statement}
 use Rattle.search.proofs.subsumption.is_apart.Tie as tie

@@ -1,4 +1,4 @@
--- The loop's invariant: where the first clauses are quiet, no pair of clauses before b is permitted.
+-- The loop's invariant: where the first clauses are searched, no pair of clauses before b is permitted.
 -- Assumes nothing.
 use Prim.Native.Nat.{_-_}
 use mathlib.Core.Path.{_≡_, refl}
@@ -9,20 +9,20 @@ use Rattle.rules.specs.Simplify.{subsumePermitted}
 use Rattle.meaning.specs.Game.{emptyClause}
 use Rattle.table.specs.Table.{Holds}
 use Rattle.index.specs.Index.{Indexes}
-use Rattle.search.specs.Quiet.{QuietTo}
+use Rattle.search.specs.Searched.{SearchedTo}
 use Rattle.meaning.proofs.Basics.{clash}
 use Rattle.table.proofs.HoldLaws.{bounds}
-use Rattle.search.proofs.QuietLaws.{Calm, calm-subsume, calm-turn, subsume-end}
+use Rattle.search.proofs.SearchedLaws.{Calm, calm-subsume, calm-turn, subsume-end}
 use borrow.Author.Needs.{needs}
 use Rattle.search.proofs.subsumption.none_new.Statement.{statement}
 use Rattle.search.proofs.subsumption.none_new.Tie as tie
 use Rattle.search.proofs.subsumption.is_apart.Reads as is-apart-reads
 
 abbrev Inv-loop : tie.InvT-loop
-Inv-loop t c index quiet b₀ b = (φ : Formula) → Holds φ t c → Indexes φ index → emptyClause (φ .clauses) ≡ false → QuietTo φ quiet → Calm (subsumePermitted φ) b
+Inv-loop t c index searched b₀ b = (φ : Formula) → Holds φ t c → Indexes φ index → emptyClause (φ .clauses) ≡ false → SearchedTo φ searched → Calm (subsumePermitted φ) b
 
 abbrev μ-loop : tie.MeasureT-loop
-μ-loop t c index quiet b₀ b = c .clauses - b
+μ-loop t c index searched b₀ b = c .clauses - b
 
 loop-holds : tie.Need-loop-holds Inv-loop μ-loop
 loop-holds c = λ φ h x n q. calm-subsume φ _ q (x .well)

@@ -1,4 +1,4 @@
--- Quiet clauses by their indices: none of the first pairs is permitted. The loop over the clauses behind them, and when all are quiet.
+-- Searched clauses by their indices: none of the first pairs is permitted. The loop over the clauses behind them, and when all are searched.
 -- Assumes nothing.
 use Prim.Native.Nat.{ℕ, zero, suc, _+_, _≤_, _<_}
 use mathlib.Core.Path.{_≡_, refl, sym, ap, _∙_}
@@ -20,7 +20,7 @@ use Rattle.rules.specs.Choice.{none, orElse, firstPair, firsts, seconds, costly
 use Rattle.table.specs.Table.{Holds}
 use Rattle.table.specs.declared.Counts.{Counts}
 use Rattle.search.specs.Candidates.{foundAs, firstFor, someStrengthens, Lowest}
-use Rattle.search.specs.Quiet.{QuietTo, Alone}
+use Rattle.search.specs.Searched.{SearchedTo, Alone}
 use Rattle.search.specs.declared.Found.{Found}
 use Rattle.search.specs.declared.Found.the-variants.{Nothing}
 use Rattle.meaning.proofs.Basics.{by-cases, false-of, clash, and-l, and-r, or-il, or-elim, not-true, eqb-self, eqb-true, eqb-false, eqb-ne}
@@ -124,9 +124,9 @@ apart (c ∷ cs) w (suc a) zero h k d = same-turn c (getD cs a []) (apart-head c
 apart (c ∷ cs) w (suc a) (suc b) h k d =
     apart cs (unfold distinct in and-r (not (anyOf (same c) cs)) (distinct cs) w) a b (le-of-suc-le-suc h) (le-of-suc-le-suc k) (λ e. d (ap suc e))
 
-module _ (φ : Formula) (m : ℕ) (quiet : QuietTo φ m) where
+module _ (φ : Formula) (m : ℕ) (searched : SearchedTo φ m) where
   pub calm-subsume : wellFormed φ ≡ true → Calm (subsumePermitted φ) m
-  unfolding QuietTo clauseAt
+  unfolding SearchedTo clauseAt
   calm-subsume w =
       record {
         fails = λ a b h k. false-of (subsumePermitted φ a b)
@@ -134,19 +134,19 @@ module _ (φ : Formula) (m : ℕ) (quiet : QuietTo φ m) where
             let i = subsume-inside φ a b e in
             let cs = φ .clauses in
             clash (s .part)
-            (quiet .no-part (getD cs a []) (getD cs b []) (among cs m a h (i .0)) (among cs m b k (i .1))
+            (searched .no-part (getD cs a []) (getD cs b []) (among cs m a h (i .0)) (among cs m b k (i .1))
             (apart cs (distinct-of φ w) a b (i .0) (i .1) (eqb-false a b (s .differ)))));
       }
 
   pub calm-strengthen : Calm (strengthenPermitted φ) m
-  unfolding QuietTo clauseAt
+  unfolding SearchedTo clauseAt
   calm-strengthen =
       record {
         fails = λ a b h k. false-of (strengthenPermitted φ a b)
             (λ e. let i = strengthen-inside φ a b e in
             let cs = φ .clauses in
             clash (strengthen-some φ a b e)
-            (quiet .no-stronger (getD cs a []) (getD cs b []) (among cs m a h (i .0)) (among cs m b k (i .1))));
+            (searched .no-stronger (getD cs a []) (getD cs b []) (among cs m a h (i .0)) (among cs m b k (i .1))));
       }
 
 -- From indices to clauses ----------------------------------------------------------------------------------------
@@ -172,15 +172,15 @@ taken cs m x h =
     ∙ or-il (anyOf (same x) (take m cs)) (anyOf (same x) (drop m cs)) h)
 
 -- nothing is known of no clause
-pub quiet-none : (φ : Formula) → QuietTo φ 0
-unfolding QuietTo anyOf
-quiet-none φ = record { no-part = λ x y i j d. clash i refl; no-stronger = λ x y i j. clash i refl }
+pub searched-none : (φ : Formula) → SearchedTo φ 0
+unfolding SearchedTo anyOf
+searched-none φ = record { no-part = λ x y i j d. clash i refl; no-stronger = λ x y i j. clash i refl }
 
 module _ (φ : Formula) where
-  -- where no pair is permitted, all clauses are quiet
-  pub quiet-of : ((a b : ℕ) → subsumePermitted φ a b ≡ false) → ((a b : ℕ) → strengthenPermitted φ a b ≡ false) → (m : ℕ) → QuietTo φ m
-  unfolding QuietTo subsumePermitted strengthenPermitted someStrengthens isClause clauseAt
-  quiet-of part strong m =
+  -- where no pair is permitted, all clauses are searched
+  pub searched-of : ((a b : ℕ) → subsumePermitted φ a b ≡ false) → ((a b : ℕ) → strengthenPermitted φ a b ≡ false) → (m : ℕ) → SearchedTo φ m
+  unfolding SearchedTo subsumePermitted strengthenPermitted someStrengthens isClause clauseAt
+  searched-of part strong m =
       record {
         no-part = λ x y i j d. let p = taken (φ .clauses) m x i in
             let q = taken (φ .clauses) m y j in
@@ -194,10 +194,10 @@ module _ (φ : Formula) where
       }
 
   -- and so they are where both kinds have no candidate
-  pub quiet-all : (E : ℕ) → candidate E φ subsume ≡ none → candidate E φ strengthen ≡ none → (m : ℕ) → QuietTo φ m
-  quiet-all E e f = quiet-of (subsume-none E φ e) (strengthen-none E φ f)
+  pub searched-all : (E : ℕ) → candidate E φ subsume ≡ none → candidate E φ strengthen ≡ none → (m : ℕ) → SearchedTo φ m
+  searched-all E e f = searched-of (subsume-none E φ e) (strengthen-none E φ f)
 
--- The loop over the clauses that are not known to be quiet: b is the next -----------------------------------------
+-- The loop over the clauses that are not known to be searched: b is the next -----------------------------------------
 -- where the search for the b of clause a finds nothing, there is none
 first-alone : (φ : Formula) (a : ℕ) → firstFor φ subsume a ≡ none → (b : ℕ) → subsumePermitted φ a b ≡ false
 unfolding firstFor permitted usesB firstPair orElse has anyOf

@@ -1,11 +1,11 @@
 -- By the two counts, and whether it is a universal.
 -- Assumes nothing.
 use Rattle.choice.proofs.HandLaws.{prefix-held, not-universal}
-use Rattle.choice.proofs.QuietLaws.{quiet-absent, quiet-pure}
-use Rattle.search.proofs.QuietLaws.{quiet-none}
+use Rattle.choice.proofs.SearchedLaws.{searched-absent, searched-pure}
+use Rattle.search.proofs.SearchedLaws.{searched-none}
 use borrow.Author.Needs.{needs}
-use Rattle.choice.proofs.quiet.quiet_without.Statement.{statement}
-use Rattle.choice.proofs.quiet.quiet_without.Tie as tie
+use Rattle.choice.proofs.searched.searched_without.Statement.{statement}
+use Rattle.choice.proofs.searched.searched_without.Tie as tie
 
 cast-literal : tie.Need-cast-literal
 cast-literal c = search needs
@@ -32,7 +32,7 @@ add-gone : tie.Need-add-gone
 add-gone c = search needs
 
 returns : tie.Need-returns
-returns c = λ φ h k p q. quiet-absent φ (k .well) _ _ q p _ _ (c .before .before .times-in .ensures φ k) (c .before .times-in2 .ensures φ k) (c .if1 .taken)
+returns c = λ φ h k p q. searched-absent φ (k .well) _ _ q p _ _ (c .before .before .times-in .ensures φ k) (c .before .times-in2 .ensures φ k) (c .if1 .taken)
 
 slice-aggregate-contains : tie.Need-slice-aggregate-contains
 slice-aggregate-contains c = prefix-held (c .before .before .before .before .before .before .pre .0)
@@ -44,7 +44,7 @@ contains-requires : tie.Need-contains-requires
 contains-requires c κs = search needs
 
 returns-2 : tie.Need-returns-2
-returns-2 c = λ φ h k p q. quiet-none _
+returns-2 c = λ φ h k p q. searched-none _
 
 less-requires : tie.Need-less-requires
 less-requires c κs = search needs
@@ -53,10 +53,10 @@ returns-3 : tie.Need-returns-3
 returns-3 c =
     let f = c .before .before in
     let y = f .before .before .before in
-    λ φ h k p q. quiet-pure φ (k .well) _ _ q p _ _ (y .before .times-in .ensures φ k) (y .times-in2 .ensures φ k) (not-universal h _ _ (f .contains .ensures) (c .before .if2 .left)) _ (c .less .ensures)
+    λ φ h k p q. searched-pure φ (k .well) _ _ q p _ _ (y .before .times-in .ensures φ k) (y .times-in2 .ensures φ k) (not-universal h _ _ (f .contains .ensures) (c .before .if2 .left)) _ (c .less .ensures)
 
-pub quiet-without-spec : {M : Type 1} → statement M
-quiet-without-spec =
+pub searched-without-spec : {M : Type 1} → statement M
+searched-without-spec =
     tie.close
     (tie.spec
     cast-literal

@@ -1,4 +1,4 @@
-// How many of the first clauses stay quiet in a step: those that it leaves as they were.
+// How many of the first clauses of a result were searched before the step: those that it leaves as they were.
 ghost use mathlib.Core.Path.{_≡_};
 ghost use Prim.Native.Nat.{_-_, _<_, min};
 ghost use mathlib.Core.Bool.{true};
@@ -8,7 +8,7 @@ ghost use Rattle.rules.specs.Simplify.{purePermitted};
 ghost use Rattle.rules.specs.Step.{resultOf};
 ghost use Rattle.table.specs.Table.{Holds, Held};
 ghost use Rattle.index.specs.Build.{Tallies, Tallied};
-ghost use Rattle.search.specs.Quiet.{QuietTo};
+ghost use Rattle.search.specs.Searched.{SearchedTo};
 use index::times_in;
 use table::Counts;
 use table::contains;
@@ -34,20 +34,20 @@ pub fn lower(a: usize, b: usize) -> usize
 
 // When the pure variable a goes: of an existential the clauses with it go, and the others stay. Of a universal its literal goes, and nothing
 // is known of what is left of its clauses.
-pub fn quiet_without(t: &[u16], c: Counts, tally: &[u16], a: usize, quiet: usize) -> usize
+pub fn searched_without(t: &[u16], c: Counts, tally: &[u16], a: usize, searched: usize) -> usize
     requires { ⌜ Held (now t) c ⌝ }
     requires { ⌜ Tallied (now tally) ⌝ }
     requires { ⌜ a < 2048 ⌝ }
-    ensures { λ r. ⌜ ((φ : Formula) → Holds φ (now (t .entry)) c → Tallies φ (now (tally .entry)) → purePermitted φ a ≡ true → QuietTo φ quiet → QuietTo (resultOf φ pure a 0) r) ⌝ }
+    ensures { λ r. ⌜ ((φ : Formula) → Holds φ (now (t .entry)) c → Tallies φ (now (tally .entry)) → purePermitted φ a ≡ true → SearchedTo φ searched → SearchedTo (resultOf φ pure a 0) r) ⌝ }
 {
     let n = c.variables;
     let literal = 2 * a as u16;
     let gone = times_in(tally, literal) as usize + times_in(tally, literal + 1) as usize;
     if gone == 0 {
-        return quiet;
+        return searched;
     }
     if contains(&t[..n], literal + 1) {
         return 0;
     }
-    less(quiet, gone)
+    less(searched, gone)
 }
