@@ -138,7 +138,13 @@ fn choose_subsume(
 }
 
 // From kind 3 on: the index goes into the spare table, where the tally was.
-fn choose_indexed(t: &[u16], c: Counts, spare: &mut [u16], allowance: usize, searched: usize) -> Chosen
+fn choose_indexed(
+    t: &[u16],
+    c: Counts,
+    spare: &mut [u16],
+    allowance: usize,
+    searched: usize,
+) -> Chosen
     requires { ⌜ Unsettled (now t) c searched × (length (now spare) ≡ 11261) × (allowance ≤ 1000) × TallyIn (now t) c (now spare) ⌝ }
     ensures { λ r. ⌜ ((φ : Formula) → Holds φ (now (t .entry)) c → wellFormed φ ≡ true → emptyClause (φ .clauses) ≡ false → SearchedTo φ searched → ChosenAs φ (nextFrom allowance φ subsume) r) ⌝ }
 {
