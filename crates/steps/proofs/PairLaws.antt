@@ -1,6 +1,6 @@
 -- Laws of the resolvents.
 -- Assumes nothing.
-use Prim.Native.Nat.{ℕ, _+_, _/_, _≤_, _<_}
+use Prim.Native.Nat.{ℕ, _+_, _-_, _/_, _≤_, _<_}
 use mathlib.Core.Path.{_≡_, refl, sym, ap, _∙_, subst}
 use mathlib.Core.Bool.{Bool, true, false, _&&_, _||_, not, cond}
 use lib.Dec.{eqb}
@@ -8,11 +8,12 @@ use mathlib.Core.List.{List, [], _∷_, _++_}
 use lib.ListN.{length, getD, take, drop, drop-of-length-le}
 use lib.Seq.{drop-cons}
 use native.Mathlib.Numerals.{add-one}
+use native.Mathlib.Omega.{arith}
 use Rattle.meaning.specs.Lists.{allOf, anyOf, keepIf, has, without}
 use Rattle.meaning.specs.Formula.{Formula, var, odd, opposite, plain, negated, isVar, mentions}
 use Rattle.meaning.specs.Tidy.{buildOn}
 use Rattle.rules.specs.Eliminate.{withLit, resolventsOf, resolvents}
-use Rattle.table.specs.Table.{withRaw, Holds}
+use Rattle.table.specs.Table.{decode, withRaw, Holds}
 use Rattle.table.specs.Answer.{Became, Built}
 use Rattle.table.specs.Pending.{inRange}
 use Rattle.table.specs.declared.Counts.{Counts}
@@ -20,13 +21,14 @@ use Rattle.table.specs.declared.Pushed.{Pushed}
 use Rattle.table.specs.declared.Pushed.the-variants.{Done, Full}
 use Rattle.steps.specs.Raws.{withRaws, Going}
 use Rattle.steps.specs.Recipe.{neither, fed}
-use Rattle.steps.specs.Pairs.{eachOf, ofPair, ofClause}
+use Rattle.steps.specs.Pairs.{eachOf, ofPair, ofClause, Silent, Within}
 use Rattle.steps.specs.declared.Turn.the-variants.{Drop}
-use Rattle.table.proofs.HoldLaws.{prefix-is}
+use Rattle.table.proofs.HoldLaws.{prefix-is, count-clauses}
+use Rattle.table.proofs.DecodeLaws.{decode-holds, holds-decoded}
 use Rattle.meaning.proofs.Basics.{by-cases, and-l, and-r}
 use Rattle.meaning.proofs.Literals.{plain-is, opp-odd, opp-opp, opp-plain}
 use Rattle.meaning.proofs.Prefix.{eqb-plain, eqb-negated}
-use Rattle.steps.proofs.BuildLaws.{built-of, built-there, going-next, going-full, going-end}
+use Rattle.steps.proofs.BuildLaws.{built-of, built-there, going-start, going-next, going-full, going-end}
 use Rattle.steps.proofs.KindLaws.{fed-drop}
 
 -- One pair --------------------------------------------------------------------------------------------------------
@@ -67,6 +69,53 @@ module _ (f : List ℕ → List (List ℕ)) (ψ : Formula) (cs : List (List ℕ)
 
     pub each-full : r ≡ Full → Built (withRaws ψ (eachOf f cs)) b Full t′
     each-full = going-full ψ (eachOf f cs) (eachOf f (drop i cs)) b t e g some (eachOf f (drop (i + 1) cs)) split r t′ k
+
+-- Clauses without m -----------------------------------------------------------------------------------------------
+pub pair-silent : (l m : ℕ) (q x : List ℕ) → Silent m (ofPair l m q x)
+unfolding ofPair
+pair-silent l m q x y n = rw n
+
+module _ (m : ℕ) (cs : List (List ℕ)) (i : ℕ) (h : i < length cs) (y : List ℕ) (is : y ≡ getD cs i []) (n : has m y ≡ false) where
+  pub silent-next : (f : List ℕ → List (List ℕ)) → Silent m f → eachOf f (drop i cs) ≡ eachOf f (drop (i + 1) cs)
+  unfolding eachOf
+  silent-next f s = rw (add-one, drop-cons cs i [] h, ← is, s y n)
+
+pub each-none : (f : List ℕ → List (List ℕ)) (cs : List (List ℕ)) (i : ℕ) → length cs ≤ i → eachOf f (drop i cs) ≡ []
+unfolding eachOf
+each-none f cs i h = rw (drop-of-length-le cs {i = i} h)
+
+pub silent-back : (m : ℕ) (cs : List (List ℕ)) (i : ℕ) → 0 < i → i ≤ length cs → (y : List ℕ) → y ≡ getD cs (i - 1) [] → has m y ≡ false
+    → (f : List ℕ → List (List ℕ)) → Silent m f → eachOf f (drop i cs) ≡ [] → eachOf f (drop (i - 1) cs) ≡ []
+silent-back m cs i h k y is n f s e =
+    let up : i - 1 + 1 ≡ i = omega arith in
+    silent-next m cs (i - 1) (omega arith) y is n f s ∙ ap (λ (x : ℕ). eachOf f (drop x cs)) up ∙ e
+
+pub within-of : {φ : Formula} {source : List ℕ} {c : Counts} → Holds φ source c → (m from to : ℕ) → from ≤ to → to ≤ c .clauses
+    → ((χ : Formula) (f : List ℕ → List (List ℕ)) → Holds χ source c → Silent m f → eachOf f (χ .clauses) ≡ eachOf f (drop from (χ .clauses)))
+    → ((χ : Formula) (f : List ℕ → List (List ℕ)) → Holds χ source c → Silent m f → eachOf f (drop to (χ .clauses)) ≡ []) → Within m (decode source c .clauses) from to
+within-of {φ} {source} {c} h m from to o n a b =
+    record {
+      order = o;
+      few = omega (arith, n, count-clauses (holds-decoded h));
+      skips = λ f s. a (decode source c) f (holds-decoded h) s;
+      ends = λ f s. b (decode source c) f (holds-decoded h) s;
+    }
+
+module _ {φ : Formula} {source : List ℕ} {c : Counts} (h : Holds φ source c) {m from to : ℕ} (w : Within m (decode source c .clauses) from to) where
+  pub within-few : to ≤ c .clauses
+  within-few = omega (arith, w .few, count-clauses (holds-decoded h))
+
+  module _ (f : List ℕ → List (List ℕ)) (s : Silent m f) where
+    -- what comes of the clauses before is nothing, and of those behind
+    pub each-start : {ψ : Formula} {t : List ℕ} {d : Counts} → Holds ψ t d → Going ψ (eachOf f (φ .clauses)) (eachOf f (drop from (φ .clauses))) (d .second) t d
+    each-start {ψ} {t} {d} k =
+        let e : eachOf f (φ .clauses) ≡ eachOf f (drop from (φ .clauses)) = rw (decode-holds φ source c h) at (w .skips f s) in
+        subst (λ (rest : List (List ℕ)). Going ψ (eachOf f (φ .clauses)) rest (d .second) t d) e (going-start ψ (eachOf f (φ .clauses)) t d k)
+
+    pub each-stop : (ψ : Formula) (b : Bool) (t : List ℕ) (e : Counts) (i : ℕ) → Going ψ (eachOf f (φ .clauses)) (eachOf f (drop i (φ .clauses))) b t e → i ≡ to → Built (withRaws ψ (eachOf f (φ .clauses))) b (Done e) t
+    each-stop ψ b t e i g q =
+        let z : eachOf f (drop to (φ .clauses)) ≡ [] = rw (decode-holds φ source c h) at (w .ends f s) in
+        going-end ψ (eachOf f (φ .clauses)) (eachOf f (drop i (φ .clauses))) b t e g (ap (λ (x : ℕ). eachOf f (drop x (φ .clauses))) q ∙ z)
 
 pub pair-as : (l m : ℕ) (x c y p q : List ℕ) → p ≡ q → c ≡ y → ofPair l m p x c ≡ ofPair l m q x y
 pair-as l m x c y p q e d = ap (λ (z : List ℕ). ofPair l m z x c) e ∙ ap (ofPair l m q x) d
