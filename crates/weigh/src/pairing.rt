@@ -183,8 +183,20 @@ fn came_before(
     any_gives(t, c, ranks, index, again, a, x, p.column, clause)
 }
 
-// The same. After many positive clauses the index tells where to look; each is tried only where there are few, or the clause has no literal to
-// look for.
+// Whether all positive clauses before this one are tried: where they are few, or the clause has no literal to look for.
+fn tries_each(row: usize, clause: &[u16]) -> bool
+    ensures { λ r. ⌜ (r ≡ false → 0 < length (now (clause .entry))) ⌝ }
+{
+    if row < FEW {
+        return true;
+    }
+    if clause.len() == 0 {
+        return true;
+    }
+    false
+}
+
+// The same. After many positive clauses the index tells where to look.
 fn is_earlier(
     t: &[u16],
     c: Counts,
@@ -199,10 +211,7 @@ fn is_earlier(
     requires { ⌜ (length (now again) ≡ 1023) × (a < 1024) × ((φ : Formula) → Indexes φ (now index) → PairOf φ a p) ⌝ }
     ensures { λ r. ⌜ ((φ : Formula) → Studied φ (now (t .entry)) c (now (ranks .entry)) (now (index .entry)) → r ≡ cameBefore φ a (p .number) (now (clause .entry))) ⌝ }
 {
-    if p.row < FEW {
-        return came_before(t, c, ranks, index, again, a, p, clause);
-    }
-    if clause.len() == 0 {
+    if tries_each(p.row, clause) {
         return came_before(t, c, ranks, index, again, a, p, clause);
     }
     let literal = 2 * a as u16;

@@ -11,6 +11,9 @@ use borrow.Author.Needs.{needs}
 use Rattle.weigh.proofs.pairing.is_earlier.Statement.{statement}
 use Rattle.weigh.proofs.pairing.is_earlier.Tie as tie
 
+tries-each-requires : tie.Need-tries-each-requires
+tries-each-requires c κs = search needs
+
 came-before-requires : tie.Need-came-before-requires
 came-before-requires c κs = search needs
 
@@ -20,15 +23,6 @@ same-length c = search needs
 returns : tie.Need-returns
 returns c = search needs
 
-came-before-requires-2 : tie.Need-came-before-requires-2
-came-before-requires-2 c κs = search needs
-
-same-length-2 : tie.Need-same-length-2
-same-length-2 c = search needs
-
-returns-2 : tie.Need-returns-2
-returns-2 c = search needs
-
 cast-literal : tie.Need-cast-literal
 cast-literal c = search needs
 
@@ -37,7 +31,7 @@ mul-literal c = search needs
 
 number-with-requires : tie.Need-number-with-requires
 number-with-requires c κs =
-    let s = c .before .before .before .before .before .before .before .before in
+    let s = c .before .before .before .before .before .before .before in
     (study-indexed (s .pre .0), λ φ h. positive-there φ (s .args .a) (s .args .p) (s .pre .1 .2 φ h))
 
 add-number-with : tie.Need-add-number-with
@@ -45,13 +39,13 @@ add-number-with c = search needs
 
 number-with-requires-2 : tie.Need-number-with-requires-2
 number-with-requires-2 c κs =
-    let s = c .before .before .before .before .before .before .before .before .before in
+    let s = c .before .before .before .before .before .before .before .before in
     (study-indexed (s .pre .0), λ φ h. negative-there φ (s .args .a) (s .args .p) (s .pre .1 .2 φ h))
 
 is-made-earlier-requires : tie.Need-is-made-earlier-requires
 is-made-earlier-requires c κs =
     let w = c .before .before in
-    let s = w .before .before .before .before .before .before .before .before .before in
+    let s = w .before .before .before .before .before .before .before .before in
     let g = s .pre .0 in
     let φ = g .formula in
     let h = studied-indexes (g .studied) in (
@@ -66,19 +60,19 @@ is-made-earlier-requires c κs =
           listed-low _ (φ .clauses) _ refl (s .args .p .row)
               (listed-there (φ .clauses) _ _ refl (s .args .p .row) (positive-there φ (s .args .a) (s .args .p) (s .pre .1 .2 φ h))),
         ),
-        omega (arith, w .before .if2 .left),
+        w .before .before .tries-each .ensures (w .before .if1 .left),
       ),
     )
 
-same-length-3 : tie.Need-same-length-3
-same-length-3 c = search needs
+same-length-2 : tie.Need-same-length-2
+same-length-2 c = search needs
 
-returns-3 : tie.Need-returns-3
-returns-3 c =
+returns-2 : tie.Need-returns-2
+returns-2 c =
     let m = c .before .before in
     let n = m .before .before in
     let w = n .before in
-    let s = w .before .before .before .before .before .before .before .before .before in
+    let s = w .before .before .before .before .before .before .before .before in
     λ φ g. let h = studied-indexes g in
     came-told φ (g .well) (s .args .a) _ (s .args .p) (s .pre .1 .2 φ h) _ _ (w .number-with .ensures φ h) (n .number-with2 .ensures φ h) _
     (m .is-made-earlier .ensures φ g)
@@ -87,17 +81,15 @@ pub is-earlier-spec : {M : Type 1} → statement M
 is-earlier-spec =
     tie.close
     (tie.spec
+    tries-each-requires
     came-before-requires
     same-length
     returns
-    came-before-requires-2
-    same-length-2
-    returns-2
     cast-literal
     mul-literal
     number-with-requires
     add-number-with
     number-with-requires-2
     is-made-earlier-requires
-    same-length-3
-    returns-3)
+    same-length-2
+    returns-2)
