@@ -10,8 +10,7 @@
  * Any contents are allowed: what is wrong is refused by a number, and nothing is assumed of a table, a record, a text or a log. What
  * the caller owes is C's: a pointer to as many elements as the length beside it says, never NULL (not even at length 0), and no two
  * buffers of one call that overlap. The library keeps nothing from call to call, has no heap, no global variables and no locks, so
- * calls on different tables may run at the same time. A call needs at most 8,192 bytes of stack (tests/c/run measures it);
- * rimhlada_reason may need up to 8,256.
+ * calls on different tables may run at the same time. A call needs at most 8,192 bytes of stack (tests/c/run measures it).
  */
 #ifndef RIMHLADA_H
 #define RIMHLADA_H
