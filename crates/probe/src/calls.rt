@@ -3,7 +3,7 @@ use crate::inputs::Head;
 use crate::inputs::head_of;
 use crate::inputs::take_bytes;
 use crate::inputs::take_table;
-use crate::inputs::word_after;
+use shows::word_after;
 
 // The result, put together; 0 for an operation that is not there.
 fn answer(

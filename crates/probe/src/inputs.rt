@@ -1,11 +1,11 @@
 // What a call brings: its numbers, and the two tables and the bytes that it lends.
-ghost use Prim.Native.Nat.{_+_, _*_, _≤_};
 ghost use mathlib.Core.Path.{_≡_};
-ghost use lib.ListN.{length};
-use crate::numbers::pair;
-use crate::numbers::take_long;
-use crate::numbers::take_word;
+ghost use lib.ListN.{getD};
+ghost use Rattle.shows.specs.Numbers.{numberAt};
 use rimhlada::Counts;
+use shows::fill;
+use shows::take_long;
+use shows::take_word;
 
 // The first fifty bytes: the operation, the record, the two numbers; then the first table's length, and how many numbers follow.
 pub struct Head {
@@ -18,7 +18,12 @@ pub struct Head {
     pub used: usize,
 }
 
-pub fn head_of(h: &[u8; 50]) -> Head {
+pub fn head_of(h: &[u8; 50]) -> Head
+    ensures { λ r. ⌜ (r .operation ≡ getD (now (h .entry)) 0 0) × (r .side ≡ getD (now (h .entry)) 1 0) ⌝ }
+    ensures { λ r. ⌜ (r .counts .variables ≡ numberAt (now (h .entry)) 2 8) × (r .counts .clauses ≡ numberAt (now (h .entry)) 10 8) × (r .counts .literals ≡ numberAt (now (h .entry)) 18 8) ⌝ }
+    ensures { λ r. ⌜ (r .a ≡ numberAt (now (h .entry)) 26 8) × (r .b ≡ numberAt (now (h .entry)) 34 8) ⌝ }
+    ensures { λ r. ⌜ (r .size ≡ numberAt (now (h .entry)) 42 4) × (r .used ≡ numberAt (now (h .entry)) 46 4) ⌝ }
+{
     let side = h[1];
     let second = side == 1;
     let counts = Counts {
@@ -35,21 +40,6 @@ pub fn head_of(h: &[u8; 50]) -> Head {
         b: take_long(h, 34),
         size: take_word(h, 42) as usize,
         used: take_word(h, 46) as usize,
-    }
-}
-
-// A table's numbers: those that follow, then zeros up to its length.
-fn fill(t: &mut [u16], size: usize, raw: &[u8], used: usize)
-    requires { ⌜ (size ≤ length (now t)) × (used ≤ size) × (2 * used ≤ length (now raw)) ⌝ }
-{
-    let mut i = 0;
-    while i < used {
-        t[i] = pair(raw[2 * i], raw[2 * i + 1]);
-        i += 1;
-    }
-    while i < size {
-        t[i] = 0;
-        i += 1;
     }
 }
 
@@ -80,18 +70,4 @@ pub fn take_table(t: &mut [u16], raw: &mut [u8], size: usize, used: usize, more:
     }
     fill(t, size, raw, used);
     true
-}
-
-// Of the bytes after a table's numbers, the four from a place on.
-pub fn word_after(raw: &[u8], used: usize, at: usize) -> usize {
-    if raw.len() < 4 {
-        return 0;
-    }
-    if raw.len() - 4 < at {
-        return 0;
-    }
-    if (raw.len() - 4 - at) / 2 < used {
-        return 0;
-    }
-    take_word(raw, 2 * used + at) as usize
 }

@@ -1,24 +1,11 @@
 // A result, put together. Each function gives the place after what it wrote; the output has room for every result.
 ghost use Prim.Native.Nat.{_+_, _≤_};
 ghost use lib.ListN.{length};
-use crate::numbers::high;
-use crate::numbers::low;
 use crate::numbers::put_number;
 use rimhlada::Counts;
-
-// How many numbers of a table reach to the last that is not zero.
-fn reach(t: &[u16]) -> usize
-    ensures { λ r. do ⌜ r ≤ (← ⟦t.len()⟧ .entry) ⌝ }
-{
-    let mut n = t.len();
-    while 0 < n {
-        if t[n - 1] != 0 {
-            return n;
-        }
-        n -= 1;
-    }
-    0
-}
+use shows::high;
+use shows::low;
+use shows::reach;
 
 // The first n numbers of a table.
 fn put_numbers(out: &mut [u8], at: usize, t: &[u16], n: usize) -> usize
