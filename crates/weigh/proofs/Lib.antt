@@ -2,8 +2,6 @@ pub mod ResolvBuild
 pub mod ResolvResult
 pub mod ResolvPairs
 pub mod ResolvSides
-pub mod MergeLaws
-pub mod MergeTurns
 pub mod ResolvPending
 pub mod ResolvFits
 pub mod ResolvRows

@@ -2,35 +2,28 @@
 -- Assumes nothing.
 use Prim.Native.Nat.{ℕ, zero, suc, _+_, _*_, _/_, _%_, _≤_, _<_}
 use mathlib.Core.Path.{_≡_, refl, sym, ap, _∙_}
-use mathlib.Core.Bool.{Bool, true, _&&_, not}
 use mathlib.Core.List.{List, [], _∷_, map}
 use lib.ListN.{length, getD}
-use lib.Dec.{ltb, leb}
-use borrow.Author.Tests.{ltb-true, le-leb}
 use native.Mathlib.Omega.{arith}
 use native.Mathlib.Nat.{not-suc-le-zero, le-of-suc-le-suc, zero-mul, suc-mul, mul-le-mul, div-lt-iff-lt-mul, div-eq-of-lt, mod-eq-of-lt, mul-add-div-right, mul-add-mod-self-right}
 use native.Mathlib.Numerals.{add-one}
-use Rattle.meaning.specs.Lists.{allOf, keepIf, has}
-use Rattle.meaning.specs.Formula.{Formula, var, mentions, plain, negated}
-use Rattle.meaning.specs.WellFormed.{ascends, tidyClause, goodPrefix, bound, wellFormed, fits, maxVariables}
+use Rattle.meaning.specs.Lists.{has}
+use Rattle.meaning.specs.Formula.{Formula, plain, negated}
 use Rattle.rules.specs.Eliminate.{withLit}
 use Rattle.table.specs.Table.{Held}
-use Rattle.table.specs.Pending.{inRange}
 use Rattle.table.specs.declared.Counts.{Counts}
 use Rattle.index.specs.Index.{clausesWith, Indexes, Indexed}
 use Rattle.index.specs.Study.{Studied, Study}
-use Rattle.weigh.specs.Merging.{Ordered}
+use Rattle.merging.specs.Merging.{Ordered}
 use Rattle.weigh.specs.Resolving.{Filed, File, rawResolvents, pairs, positiveAt, negativeAt, Placed, PairOf}
 use Rattle.weigh.specs.declared.pairing.Pair.{Pair}
 use Rattle.meaning.proofs.Weight.{keep-length}
-use Rattle.meaning.proofs.Basics.{and-l, and-r, and-i}
-use Rattle.meaning.proofs.Lists.{all-all, all-le, all-keep-le}
-use Rattle.meaning.proofs.Prefix.{bound-numbers}
-use Rattle.meaning.proofs.Parts.{room-of, good-of, tidy-of, ascends-of, bound-all}
+use Rattle.meaning.proofs.Parts.{room-of}
 use Rattle.table.proofs.HoldLaws.{held}
 use Rattle.table.proofs.RankLaws.{length-ranks}
 use Rattle.index.proofs.ClauseLaws.{with-clauses, with-length, with-at}
 use Rattle.index.proofs.ReadLaws.{indexed, studied-indexes}
+use Rattle.merging.proofs.OrderedLaws.{ordered-at, ordered-kept}
 use Rattle.weigh.proofs.ResolvPairs.{pairs-length, some-negative}
 
 -- What is at hand ------------------------------------------------------------------------------------------------------
@@ -138,50 +131,14 @@ module _ (φ : Formula) (a : ℕ) (p : Pair) (g : PairOf φ a p) where
   unfolding negativeAt plain negated
   negative-is = ap (λ (i : ℕ). getD (withLit (2 * a + 1) (φ .clauses)) i []) pair-column
 
--- The literals of a pair are in range ------------------------------------------------------------------------------------
-good-above : (p : List ℕ) → goodPrefix p ≡ true → allOf (λ q. leb 1 (var q)) p ≡ true
-unfolding goodPrefix allOf
-good-above [] g = refl
-good-above (q ∷ p) g =
-    and-i (leb 1 (var q)) (allOf (λ x. leb 1 (var x)) p)
-    (le-leb 1 (var q) (ltb-true 0 (var q) (and-l (ltb 0 (var q)) (not (mentions p (var q)) && goodPrefix p) g)))
-    (good-above p (search and-r))
-
-clauses-range : (φ : Formula) → wellFormed φ ≡ true → fits φ ≡ true → allOf (allOf inRange) (φ .clauses) ≡ true
-unfolding inRange
-clauses-range φ w f =
-    all-le (bound (φ .prefix)) (allOf inRange) (φ .clauses)
-    (λ c b. bound-numbers (λ v. leb 1 v && leb v maxVariables) (φ .prefix) c
-    (all-all (λ q. leb 1 (var q)) (λ q. leb (var q) maxVariables) (φ .prefix) (good-above (φ .prefix) (good-of φ w)) (room-of φ f .numbers)) b)
-    (bound-all φ w)
-
-clauses-rise : (φ : Formula) → wellFormed φ ≡ true → allOf ascends (φ .clauses) ≡ true
-clauses-rise φ w = all-le (tidyClause (φ .prefix)) ascends (φ .clauses) (ascends-of (φ .prefix)) (tidy-of φ w)
-
--- so too behind the last clause, where the empty one is read
-all-at : (f : List ℕ → Bool) (cs : List (List ℕ)) (i : ℕ) → f [] ≡ true → allOf f cs ≡ true → f (getD cs i []) ≡ true
-unfolding allOf
-all-at f [] i e h = e
-all-at f (c ∷ cs) zero e h = and-l (f c) (allOf f cs) h
-all-at f (c ∷ cs) (suc i) e h = all-at f cs i e (and-r (f c) (allOf f cs) h)
-
+-- The clauses of a pair can be merged --------------------------------------------------------------------------------------
 module _ {φ : Formula} {t : List ℕ} {c : Counts} {index : List ℕ} (f : Filed φ t c index) where
   pub clause-ordered : (i : ℕ) → Ordered (getD (φ .clauses) i [])
-  unfolding allOf ascends
-  clause-ordered i =
-      record {
-        range = all-at (allOf inRange) (φ .clauses) i refl (clauses-range φ (f .indexes .well) (f .holds .fitting));
-        rise = all-at ascends (φ .clauses) i refl (clauses-rise φ (f .indexes .well));
-      }
+  clause-ordered i = ordered-at φ (f .indexes .well) (f .holds .fitting) i
 
   pub side-ordered : (l i : ℕ) → Ordered (getD (withLit l (φ .clauses)) i [])
-  unfolding withLit allOf ascends
-  side-ordered l i =
-      record {
-        range = all-at (allOf inRange) (keepIf (has l) (φ .clauses)) i refl
-            (all-keep-le (allOf inRange) (has l) (φ .clauses) (clauses-range φ (f .indexes .well) (f .holds .fitting)));
-        rise = all-at ascends (keepIf (has l) (φ .clauses)) i refl (all-keep-le ascends (has l) (φ .clauses) (clauses-rise φ (f .indexes .well)));
-      }
+  unfolding withLit
+  side-ordered l i = ordered-kept φ (f .indexes .well) (f .holds .fitting) (has l) i
 
 -- How many pairs there are -----------------------------------------------------------------------------------------------
 pub pairs-few : {φ : Formula} {index : List ℕ} → Indexes φ index → (a : ℕ) → pairs φ a ≤ 4190209

@@ -13,7 +13,7 @@ use Rattle.meaning.specs.WellFormed.{goodPrefix}
 use Rattle.table.specs.Ranks.{ranksOf, reducedBy}
 use Rattle.table.specs.Pending.{Pends}
 use Rattle.table.specs.declared.Pending.{Pending}
-use Rattle.weigh.specs.Merging.{joined}
+use Rattle.merging.specs.Merging.{joined}
 use Rattle.weigh.specs.Resolving.{resolvent, becomes, covers, tidiedIn}
 use Rattle.meaning.proofs.Basics.{false-of, clash, or-il, or-ir, or-elim}
 use Rattle.meaning.proofs.Lists.{any-append, any-ascending, any-keep-le, same-path, all-of-has}

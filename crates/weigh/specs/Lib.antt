@@ -1,5 +1,4 @@
 pub mod Weights
 pub mod Resolving
-pub mod Merging
 pub mod Earlier
 pub mod Expanding

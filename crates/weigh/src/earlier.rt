@@ -10,7 +10,7 @@ ghost use Rattle.meaning.specs.Lists.{anyOf};
 ghost use Rattle.meaning.specs.Formula.{Formula};
 ghost use Rattle.rules.specs.Eliminate.{withLit};
 ghost use Rattle.index.specs.Study.{Studied, Study};
-ghost use Rattle.weigh.specs.Merging.{Ordered};
+ghost use Rattle.merging.specs.Merging.{Ordered};
 ghost use Rattle.weigh.specs.Earlier.{makes, makesWith, ownOf, otherOf, partnered, lackingOf, madeEarlier};
 use crate::resolvents::fits_in;
 use crate::resolvents::gives;

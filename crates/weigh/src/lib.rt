@@ -2,7 +2,6 @@
 mod counts;
 mod earlier;
 mod expanding;
-mod merging;
 mod pairing;
 mod resolvents;
 mod resolving;

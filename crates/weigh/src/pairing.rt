@@ -9,7 +9,7 @@ ghost use Rattle.rules.specs.Eliminate.{withLit};
 ghost use Rattle.table.specs.Table.{countsOf, clauseMore};
 ghost use Rattle.index.specs.Index.{Indexes, Indexed};
 ghost use Rattle.index.specs.Study.{Studied, Study};
-ghost use Rattle.weigh.specs.Merging.{Ordered};
+ghost use Rattle.merging.specs.Merging.{Ordered};
 ghost use Rattle.weigh.specs.Resolving.{pairs, Placed, PairOf, resolventAt, resolvedTo, tidiedIn, anyGives, rowGives, cameBefore, Bounded};
 use crate::earlier::is_made_earlier;
 use crate::resolvents::fits_in;

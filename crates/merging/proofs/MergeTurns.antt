@@ -2,7 +2,7 @@
 -- Assumes nothing.
 use Prim.Native.Nat.{ℕ, _+_, _/_, _≤_, _<_}
 use mathlib.Core.Path.{_≡_, refl, sym, ap, _∙_}
-use mathlib.Core.Bool.{Bool, true, false}
+use mathlib.Core.Bool.{true, false}
 use mathlib.Core.List.{List, [], _∷_, _++_}
 use lib.ListN.{length, getD, take, drop, set, length-set, length-drop, drop-of-length-le}
 use lib.Seq.{drop-cons, drop-drop, take-suc-set}
@@ -13,11 +13,11 @@ use native.Mathlib.Numerals.{add-one}
 use Rattle.meaning.specs.Formula.{var}
 use Rattle.meaning.specs.Tidy.{ascending, bothPhases}
 use Rattle.table.specs.Pending.{Pends}
-use Rattle.weigh.specs.Merging.{headOf, joined, Ordered, Partway, Merges}
-use Rattle.weigh.specs.declared.merging.Merging.{Merging}
+use Rattle.merging.specs.Merging.{headOf, joined, Ordered, Partway, Merges}
+use Rattle.merging.specs.declared.Merging.{Merging}
 use Rattle.meaning.proofs.Basics.{by-cases, clash, false-of}
 use Rattle.table.proofs.SortLaws.{both-ascending}
-use Rattle.weigh.proofs.MergeLaws.{turned, pass-first, put-first, put-same, both-met, put-room, first-there, head-none, merged-all, above-none, joined-range}
+use Rattle.merging.proofs.MergeLaws.{turned, pass-first, put-first, put-same, both-met, put-room, first-there, head-none, merged-all, above-none, joined-range}
 
 -- the next literal
 pub head-here : (c : List ℕ) (i : ℕ) → i < length c → getD c i 0 ≡ headOf (drop i c)

@@ -11,7 +11,7 @@ use Rattle.meaning.specs.Formula.{var}
 use Rattle.meaning.specs.Tidy.{ascending, bothPhases}
 use Rattle.meaning.specs.WellFormed.{ascends}
 use Rattle.table.specs.Pending.{inRange}
-use Rattle.weigh.specs.declared.merging.Merging.{Merging}
+use Rattle.merging.specs.declared.Merging.{Merging}
 
 -- the next literal; at the end a number above all literals
 unfoldable pub headOf : List ℕ → ℕ

@@ -1,10 +1,10 @@
 -- The literal that is there, or the number past all.
 -- Assumes nothing.
 use native.Mathlib.Omega.{arith}
-use Rattle.weigh.proofs.MergeTurns.{head-here, head-past}
+use Rattle.merging.proofs.MergeTurns.{head-here, head-past}
 use borrow.Author.Needs.{needs}
-use Rattle.weigh.proofs.merging.head_at.Statement.{statement}
-use Rattle.weigh.proofs.merging.head_at.Tie as tie
+use Rattle.merging.proofs.head_at.Statement.{statement}
+use Rattle.merging.proofs.head_at.Tie as tie
 
 mul-result : tie.Need-mul-result
 mul-result c = search needs

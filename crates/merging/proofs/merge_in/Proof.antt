@@ -4,11 +4,11 @@ use Prim.Native.Nat.{_+_, _-_}
 use mathlib.Core.Path.{_≡_, refl, _∙_}
 use native.Mathlib.Omega.{arith}
 use lib.ListN.{length}
-use Rattle.weigh.specs.Merging.{Merges}
-use Rattle.weigh.proofs.MergeLaws.{clause-few}
-use Rattle.weigh.proofs.MergeTurns.{merge-start, merge-end}
-use Rattle.weigh.proofs.merging.merge_in.Statement.{statement}
-use Rattle.weigh.proofs.merging.merge_in.Tie as tie
+use Rattle.merging.specs.Merging.{Merges}
+use Rattle.merging.proofs.MergeLaws.{clause-few}
+use Rattle.merging.proofs.MergeTurns.{merge-start, merge-end}
+use Rattle.merging.proofs.merge_in.Statement.{statement}
+use Rattle.merging.proofs.merge_in.Tie as tie
 
 abbrev Inv-loop : tie.InvT-loop
 Inv-loop scratch₀ x y out m₀ scratch m = (length scratch ≡ length scratch₀) × Merges out x y scratch m

@@ -1,10 +1,10 @@
 -- Each way of a turn has its law.
 -- Assumes nothing.
 use native.Mathlib.Omega.{arith}
-use Rattle.weigh.proofs.MergeTurns.{pass-one, pass-other, one-room, put-one, other-room, put-other, both-room, put-both, met-both}
+use Rattle.merging.proofs.MergeTurns.{pass-one, pass-other, one-room, put-one, other-room, put-other, both-room, put-both, met-both}
 use borrow.Author.Needs.{needs}
-use Rattle.weigh.proofs.merging.merge_next.Statement.{statement}
-use Rattle.weigh.proofs.merging.merge_next.Tie as tie
+use Rattle.merging.proofs.merge_next.Statement.{statement}
+use Rattle.merging.proofs.merge_next.Tie as tie
 
 head-at-requires : tie.Need-head-at-requires
 head-at-requires c κs = search needs

@@ -2,7 +2,7 @@
 -- Assumes nothing.
 use Prim.Native.Nat.{ℕ, _+_, _≤_, _<_, _/_}
 use mathlib.Core.Path.{_≡_, refl, sym, ap, _∙_}
-use mathlib.Core.Bool.{Bool, true, false, _&&_, _||_, not}
+use mathlib.Core.Bool.{Bool, true, false, _||_, not}
 use mathlib.Core.List.{List, [], _∷_, _++_, append-assoc, append-nil}
 use lib.ListN.{length, drop}
 use lib.Dec.{eqb, ltb, leb}
@@ -13,8 +13,8 @@ use Rattle.meaning.specs.Formula.{var, odd, opposite}
 use Rattle.meaning.specs.Tidy.{insertNew, ascending, bothPhases}
 use Rattle.meaning.specs.WellFormed.{ascends}
 use Rattle.table.specs.Pending.{inRange}
-use Rattle.weigh.specs.Merging.{headOf, joined, Ordered, Above, Partway}
-use Rattle.meaning.proofs.Basics.{by-cases, false-of, and-l, and-r, and-i, or-il, or-ir, eqb-self, eqb-eq, eqb-ne, eqb-true}
+use Rattle.merging.specs.Merging.{headOf, joined, Ordered, Above, Partway}
+use Rattle.meaning.proofs.Basics.{by-cases, false-of, and-l, and-r, and-i, or-il, or-ir, eqb-self, eqb-eq, eqb-ne}
 use Rattle.meaning.proofs.Lists.{any-append, any-agree, any-has, all-append, all-le, all-has, all-of-has, all-keep-le}
 use Rattle.meaning.proofs.Literals.{var-opp, odd-opp, lit-path}
 use Rattle.meaning.proofs.Ascends.{opp-differs}

@@ -3,7 +3,7 @@ ghost use mathlib.Core.Path.{_≡_};
 ghost use Prim.Native.Nat.{_+_, _<_};
 ghost use lib.ListN.{length, drop};
 ghost use Rattle.table.specs.Pending.{Pends};
-ghost use Rattle.weigh.specs.Merging.{headOf, joined, Ordered, Merges};
+ghost use Rattle.merging.specs.Merging.{headOf, joined, Ordered, Merges};
 use table::Pending;
 
 // How far it has come: in the first clause, in the second, and in the scratch; and whether both phases of a variable were met.
