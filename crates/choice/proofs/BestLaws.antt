@@ -13,9 +13,9 @@ use Rattle.meaning.specs.WellFormed.{weight, fits}
 use Rattle.rules.specs.Entry.{Kind, resolve, expand}
 use Rattle.rules.specs.Step.{permitted, resultOf}
 use Rattle.rules.specs.Choice.{costly, light, wanted, allowedCall, blockedCall, firsts, Found, none, found, lighter, lightest, candidate}
-use Rattle.weigh.specs.Weights.{weighed, weighedStep}
-use Rattle.weigh.specs.declared.Weighed.{Weighed}
-use Rattle.weigh.specs.declared.Weighed.the-variants.{Over, Fitting, Wide}
+use Rattle.growth.specs.Weights.{weighed, weighedStep}
+use Rattle.growth.specs.declared.Weighed.{Weighed}
+use Rattle.growth.specs.declared.Weighed.the-variants.{Over, Fitting, Wide}
 use Rattle.meaning.proofs.Basics.{by-cases, and-l, and-r, or-false}
 use Rattle.choice.specs.Chosen.{bestAs, anyOfKind, bestOf, limitOf, roomless, considered, considerAll, nothingYet}
 use Rattle.choice.specs.declared.Best.{Best}

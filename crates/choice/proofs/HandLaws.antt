@@ -21,7 +21,7 @@ use Rattle.index.specs.Study.{Studied, Study}
 use Rattle.index.specs.Build.{HeldWell, tallyOf, Tallies}
 use Rattle.search.specs.Searched.{SearchedTo}
 use Rattle.search.proofs.SearchedLaws.{searched-none}
-use Rattle.weigh.specs.Weights.{NoneSubsumed}
+use Rattle.growth.specs.Weights.{NoneSubsumed}
 use Rattle.choice.specs.Chosen as choice
 use Rattle.choice.specs.Chosen.{HeldSearched, Unsettled, Busy, Unsubsumed, Apart, Ranks}
 

@@ -13,8 +13,8 @@ use Rattle.rules.specs.Entry.{Kind, resolve, expand}
 use Rattle.rules.specs.Choice.{firsts, variables}
 use Rattle.table.specs.Table.{Holds, Held, countsOf}
 use Rattle.table.specs.declared.Counts.{Counts}
-use Rattle.weigh.specs.Weights.{weighedStep}
-use Rattle.weigh.specs.declared.Weighed.{Weighed}
+use Rattle.growth.specs.Weights.{weighedStep}
+use Rattle.growth.specs.declared.Weighed.{Weighed}
 use Rattle.table.proofs.HoldLaws.{held, count-variables, count-clauses, count-literals}
 use Rattle.table.proofs.RankLaws.{length-ranks}
 use Rattle.search.proofs.PrefixLaws.{entry-at}

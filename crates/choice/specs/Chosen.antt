@@ -18,9 +18,9 @@ use Rattle.table.specs.Ranks.{ranksOf}
 use Rattle.table.specs.declared.Counts.{Counts}
 use Rattle.index.specs.Study.{Studied}
 use Rattle.search.specs.Searched.{SearchedTo}
-use Rattle.weigh.specs.Weights.{weighedStep, NoneSubsumed}
-use Rattle.weigh.specs.declared.Weighed.{Weighed}
-use Rattle.weigh.specs.declared.Weighed.the-variants.{Over, Fitting, Wide}
+use Rattle.growth.specs.Weights.{weighedStep, NoneSubsumed}
+use Rattle.growth.specs.declared.Weighed.{Weighed}
+use Rattle.growth.specs.declared.Weighed.the-variants.{Over, Fitting, Wide}
 use Rattle.choice.specs.declared.End.{End}
 use Rattle.choice.specs.declared.End.the-variants as end
 use Rattle.choice.specs.declared.Next.{Next}

@@ -3,7 +3,7 @@ ghost use mathlib.Core.Path.{_≡_};
 ghost use Rattle.choice.specs.Chosen.{roomless, considered, nothingYet};
 use crate::Best;
 use crate::Standing;
-use weigh::Weighed;
+use growth::Weighed;
 
 impl Best {
     // One more failed only for room. Where a step counts, that makes no difference.

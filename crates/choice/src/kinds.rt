@@ -13,7 +13,7 @@ ghost use Rattle.table.specs.Table.{tableOf, emptyFormula, Holds};
 ghost use Rattle.index.specs.Study.{Studied};
 ghost use Rattle.index.specs.Build.{TallyIn};
 ghost use Rattle.search.specs.Searched.{SearchedTo};
-ghost use Rattle.weigh.specs.Weights.{NoneSubsumed};
+ghost use Rattle.growth.specs.Weights.{NoneSubsumed};
 ghost use Rattle.choice.specs.Chosen.{nextAs, anyOfKind, stuckAs, nextFrom, ChosenAs, AllSearched, HeldSearched, Unsettled, Busy, Unsubsumed, Apart, Ranks, Ranked};
 use crate::Best;
 use crate::Chosen;

@@ -9,9 +9,9 @@ ghost use Rattle.index.specs.Study.{Studied, Study};
 ghost use Rattle.choice.specs.Chosen.{bestOf, Ranks, Ranked};
 use crate::Best;
 use crate::Standing;
+use growth::weigh_expand;
 use permits::first_universal;
 use table::Counts;
-use weigh::weigh_expand;
 use weigh::weigh_resolve;
 
 // How many entries stand left of the first universal behind entry i, from how many stand left of the first from entry i on: as many, unless

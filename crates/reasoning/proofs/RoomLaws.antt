@@ -29,8 +29,8 @@ use Rattle.rules.proofs.Place.{Place, forall-place}
 use Rattle.rules.proofs.Expand.{copies-ok, with-u, fs-out}
 use Rattle.rules.proofs.Raws.{RawOk, expand-ok}
 use Rattle.permits.proofs.PlaceLaws.{entries-of, large-out}
-use Rattle.weigh.proofs.ExpandClauses.{Expands}
-use Rattle.weigh.proofs.ExpandRoom.{new-length, new-fits}
+use Rattle.growth.proofs.ExpandClauses.{Expands}
+use Rattle.growth.proofs.ExpandRoom.{new-length, new-fits}
 
 count-is : (ψ : Formula) (d : Counts) → d ≡ countsOf ψ (d .second) → d .variables ≡ length (ψ .prefix)
 unfolding countsOf

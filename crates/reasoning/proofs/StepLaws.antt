@@ -19,7 +19,7 @@ use Rattle.table.specs.declared.Counts.{Counts}
 use Rattle.table.specs.Ranks.{ranksOf}
 use Rattle.index.specs.Build.{HeldWell}
 use Rattle.choice.specs.Chosen.{Ranks}
-use Rattle.weigh.specs.Weights.{NoneSubsumed, Summable}
+use Rattle.growth.specs.Weights.{NoneSubsumed, Summable}
 use Rattle.reasons.specs.Reason.{ownEntry, notLighter, tooHeavy, overLimit, universalAfter, existentialAfter, farClause, farVariable, whyExistential, whyUniversal, whyLeft}
 use Rattle.reasons.specs.Statement.{Quiet}
 use Rattle.meaning.proofs.Basics.{by-cases}

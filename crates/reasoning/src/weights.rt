@@ -11,9 +11,9 @@ ghost use Rattle.choice.specs.Chosen.{Ranks, Ranked};
 ghost use Rattle.reasons.specs.Reason.{ofVariables, within, whyExistential, whyUniversal};
 ghost use Rattle.reasoning.specs.Whys.{whyAs, limitOr};
 use crate::Why;
+use growth::expanded_counts;
 use permits::entry_of;
 use table::Counts;
-use weigh::expanded_counts;
 use weigh::resolved_counts;
 use weigh::weight_of;
 

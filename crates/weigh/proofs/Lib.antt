@@ -11,13 +11,3 @@ pub mod ListedLaws
 pub mod EarlierLaws
 pub mod ResolvWeigh
 pub mod ResolvStart
-pub mod ExpandLists
-pub mod ExpandBuild
-pub mod ExpandCopies
-pub mod ExpandClauses
-pub mod ExpandParts
-pub mod ExpandSums
-pub mod ExpandPlaces
-pub mod ExpandRoom
-pub mod ExpandWeight
-pub mod ExpandLoops

@@ -22,9 +22,9 @@ use Rattle.permits.proofs.SideLaws.{resolve-large}
 use Rattle.index.specs.Study.{Studied}
 use Rattle.table.specs.Table.{countsOf}
 use Rattle.table.specs.declared.Counts.{Counts}
-use Rattle.weigh.specs.Weights.{weighed, weighedStep}
-use Rattle.weigh.specs.declared.Weighed.{Weighed}
-use Rattle.weigh.specs.declared.Weighed.the-variants.{Over}
+use Rattle.growth.specs.Weights.{weighed, weighedStep}
+use Rattle.growth.specs.declared.Weighed.{Weighed}
+use Rattle.growth.specs.declared.Weighed.the-variants.{Over}
 use Rattle.weigh.specs.Resolving.{restOf, stayOf, pairs, resolvedTo, Filed, Bounded, FirstUniversal}
 use Rattle.meaning.proofs.Basics.{by-cases, clash}
 use Rattle.meaning.proofs.Lists.{all-keep-le}

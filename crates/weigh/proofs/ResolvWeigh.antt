@@ -18,9 +18,9 @@ use Rattle.rules.specs.Step.{resultOf}
 use Rattle.table.specs.Table.{countsOf, clauseMore}
 use Rattle.table.specs.declared.Counts.{Counts}
 use Rattle.table.specs.declared.Pending.{Pending}
-use Rattle.weigh.specs.Weights.{weighed, Summable}
-use Rattle.weigh.specs.declared.Weighed.{Weighed}
-use Rattle.weigh.specs.declared.Weighed.the-variants.{Over, Fitting, Wide}
+use Rattle.growth.specs.Weights.{weighed, Summable}
+use Rattle.growth.specs.declared.Weighed.{Weighed}
+use Rattle.growth.specs.declared.Weighed.the-variants.{Over, Fitting, Wide}
 use Rattle.weigh.specs.Resolving.{restOf, rawResolvents, pairs, resolventAt, resolvedTo, becomes, cameBefore, tidiedIn, Bounded, CountedTo}
 use Rattle.meaning.proofs.Basics.{false-of, by-cases}
 use Rattle.meaning.proofs.Parts.{room-of, of-room}

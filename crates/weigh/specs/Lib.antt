@@ -1,4 +1,2 @@
-pub mod Weights
 pub mod Resolving
 pub mod Earlier
-pub mod Expanding

@@ -3,7 +3,7 @@ ghost use mathlib.Core.Path.{_≡_};
 ghost use Rattle.meaning.specs.Formula.{Formula};
 ghost use Rattle.meaning.specs.WellFormed.{weight};
 ghost use Rattle.table.specs.Table.{countsOf};
-ghost use Rattle.weigh.specs.Weights.{Summable};
+ghost use Rattle.growth.specs.Weights.{Summable};
 use table::Counts;
 
 // The weight of a formula with these counts.

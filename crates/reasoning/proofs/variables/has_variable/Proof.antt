@@ -6,7 +6,7 @@ use native.Mathlib.Omega.{arith}
 use lib.ListN.{length, drop}
 use borrow.Author.Needs.{needs}
 use Rattle.meaning.specs.Formula.{mentions}
-use Rattle.weigh.proofs.ExpandLoops.{variable-found, variable-turn, variable-end}
+use Rattle.growth.proofs.ExpandLoops.{variable-found, variable-turn, variable-end}
 use Rattle.reasoning.proofs.variables.has_variable.Statement.{statement}
 use Rattle.reasoning.proofs.variables.has_variable.Tie as tie
 

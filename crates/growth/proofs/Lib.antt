@@ -1,0 +1,10 @@
+pub mod ExpandLists
+pub mod ExpandBuild
+pub mod ExpandCopies
+pub mod ExpandClauses
+pub mod ExpandParts
+pub mod ExpandSums
+pub mod ExpandPlaces
+pub mod ExpandRoom
+pub mod ExpandWeight
+pub mod ExpandLoops
