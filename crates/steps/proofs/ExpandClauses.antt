@@ -13,16 +13,17 @@ use Rattle.meaning.specs.WellFormed.{goodPrefix, bound, maxVariables}
 use Rattle.rules.specs.Simplify.{withoutLit, assign}
 use Rattle.rules.specs.Eliminate.{allExist, inner, fresh, renameVar, renameLit, touching, others}
 use Rattle.table.specs.Pending.{inRange}
-use Rattle.steps.specs.Recipe.{taken, reaches, copied, turned, someOf, fed, rawsBy}
+use Rattle.recipes.specs.Recipe.{taken, reaches, copied, turned, someOf, fed, rawsBy}
 use Rattle.steps.specs.Copies.{halvesBy, expandedBy}
-use Rattle.steps.specs.declared.Which.the-variants.{Near, Far}
-use Rattle.steps.specs.declared.Turn.the-variants.{Same, Drop, Copy}
+use Rattle.recipes.specs.declared.Which.the-variants.{Near, Far}
+use Rattle.recipes.specs.declared.Turn.the-variants.{Same, Drop, Copy}
 use Rattle.meaning.proofs.Basics.{by-cases, and-l, and-r, eqb-sym}
 use Rattle.meaning.proofs.Lists.{all-kept, all-le}
 use Rattle.meaning.proofs.Literals.{opp-plain, opp-negated}
 use Rattle.meaning.proofs.Prefix.{mentioned-all}
 use Rattle.rules.proofs.Fresh.{fresh-length}
-use Rattle.steps.proofs.KindLaws.{map-same, some-zero, some-in, bound-range, fed-keep, fed-same, fed-drop, raws-keep}
+use Rattle.recipes.proofs.FedLaws.{map-same, bound-range, fed-keep, raws-keep}
+use Rattle.steps.proofs.KindLaws.{some-zero, some-in, fed-same, fed-drop}
 use Rattle.steps.proofs.ExpandPlaces.{rename-is, reaches-is, copied-is}
 use Rattle.steps.proofs.ExpandPrefix.{Split, no-copy, good-new}
 

@@ -21,12 +21,12 @@ use Rattle.table.specs.declared.Pushed.{Pushed}
 use Rattle.table.specs.declared.Pushed.the-variants.{Done, Full}
 use Rattle.permits.specs.Places.{placeOf}
 use Rattle.steps.specs.Given.{Given}
-use Rattle.steps.specs.Raws.{bare, withRaws}
-use Rattle.steps.specs.Recipe.{rawsBy}
-use Rattle.steps.specs.Left.{Shrunk}
+use Rattle.recipes.specs.Raws.{bare, withRaws}
+use Rattle.recipes.specs.Recipe.{rawsBy}
+use Rattle.recipes.specs.Left.{Shrunk}
 use Rattle.steps.specs.Copies.{existentials, withEntries, halvesBy, expandedBy}
-use Rattle.steps.specs.declared.Which.the-variants.{Near, Far}
-use Rattle.steps.specs.declared.Turn.the-variants.{Same, Drop, Copy}
+use Rattle.recipes.specs.declared.Which.the-variants.{Near, Far}
+use Rattle.recipes.specs.declared.Turn.the-variants.{Same, Drop, Copy}
 use Rattle.meaning.proofs.Basics.{clash, and-r}
 use Rattle.meaning.proofs.Lists.{all-append, all-le, all-all, all-map}
 use Rattle.meaning.proofs.Literals.{var-of-plain, odd-of-plain}
@@ -36,9 +36,9 @@ use Rattle.rules.proofs.Fresh.{fresh-above}
 use Rattle.rules.proofs.Permitted.{ExpandSays, expand-says}
 use Rattle.table.proofs.HoldLaws.{prefix-is, count-variables}
 use Rattle.permits.proofs.PlaceLaws.{entries-of, large-out}
-use Rattle.steps.proofs.BuildLaws.{raws-not, built-not, built-full, built-done, built-second, then-full, then-done}
-use Rattle.steps.proofs.RawLaws.{shrunk-more}
-use Rattle.steps.proofs.KindLaws.{numbers-in}
+use Rattle.recipes.proofs.BuildLaws.{raws-not, built-not, built-full, built-done, built-second, then-full, then-done}
+use Rattle.recipes.proofs.RawLaws.{shrunk-more}
+use Rattle.recipes.proofs.FedLaws.{numbers-in}
 use Rattle.steps.proofs.ExpandPrefix.{split-of, good-new, inner-many, inner-few}
 use Rattle.steps.proofs.ExpandClauses.{expanded-are}
 

@@ -16,7 +16,7 @@ use Rattle.meaning.specs.Formula.{var, odd, plain, negated, isVar, mentions, an
 use Rattle.meaning.specs.WellFormed.{goodPrefix}
 use Rattle.rules.specs.Eliminate.{allExist, inner, renameVar, renameLit}
 use Rattle.permits.specs.Places.{placeFrom, placeOf}
-use Rattle.steps.specs.Recipe.{reaches, copyOf, copied}
+use Rattle.recipes.specs.Recipe.{reaches, copyOf, copied}
 use Rattle.steps.specs.Copies.{existentials}
 use Rattle.meaning.proofs.Basics.{by-cases, clash, iff, or-l, or-r, or-ir, or-false, not-true, eqb-ne}
 use Rattle.meaning.proofs.Lists.{any-append, any-agree}

@@ -23,12 +23,12 @@ use Rattle.permits.specs.Choices.{pureTrue, strengtheningOf, replacing, replace
 use Rattle.permits.specs.declared.Strengthens.{Strengthens}
 use Rattle.permits.specs.declared.Strengthens.the-variants.{By, No}
 use Rattle.permits.specs.declared.Replacement.{Replacement}
-use Rattle.steps.specs.Recipe.{Ready, remade}
-use Rattle.steps.specs.Left.{about}
+use Rattle.recipes.specs.Recipe.{Ready, remade}
+use Rattle.recipes.specs.Left.{about}
 use Rattle.steps.specs.Given.{Given, Begun}
-use Rattle.steps.specs.declared.Which.the-variants.{All, But, Without}
-use Rattle.steps.specs.declared.Turn.{Turn}
-use Rattle.steps.specs.declared.Turn.the-variants.{Same, Drop, DropAt, Replace}
+use Rattle.recipes.specs.declared.Which.the-variants.{All, But, Without}
+use Rattle.recipes.specs.declared.Turn.{Turn}
+use Rattle.recipes.specs.declared.Turn.the-variants.{Same, Drop, DropAt, Replace}
 use Rattle.table.proofs.HoldLaws.{held}
 use Rattle.table.proofs.DecodeLaws.{decode-holds}
 use Rattle.table.proofs.RankLaws.{length-ranks}
@@ -37,7 +37,8 @@ use Rattle.permits.proofs.PureLaws.{pure-raw}
 use Rattle.permits.proofs.EqualLaws.{equality-raw}
 use Rattle.meaning.proofs.Basics.{by-cases, clash, and-l, and-r, eqb-eq}
 use Rattle.meaning.proofs.Literals.{var-opp, var-plain}
-use Rattle.steps.proofs.KindLaws.{in-range, range-opposite, range-at, remade-true, remade-but, remade-strip, remade-replace}
+use Rattle.recipes.proofs.FedLaws.{in-range}
+use Rattle.steps.proofs.KindLaws.{range-opposite, range-at, remade-true, remade-but, remade-strip, remade-replace}
 
 -- What is asked of the functions below -----------------------------------------------------------------------------
 module _ {source : List ℕ} {c : Counts} {target scratch ranks : List ℕ} (b : Begun source c target scratch ranks) where

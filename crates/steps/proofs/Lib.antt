@@ -1,10 +1,4 @@
-pub mod RecipeLaws
-pub mod PrefixLaws
-pub mod BuildLaws
-pub mod RawLaws
 pub mod KindLaws
-pub mod LeftLaws
-pub mod LeadLaws
 pub mod GivenLaws
 pub mod PairLaws
 pub mod CopyLaws

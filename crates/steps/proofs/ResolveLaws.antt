@@ -16,18 +16,20 @@ use Rattle.table.specs.Pending.{inRange}
 use Rattle.table.specs.declared.Counts.{Counts}
 use Rattle.table.specs.declared.Pushed.{Pushed}
 use Rattle.table.specs.declared.Pushed.the-variants.{Done, Full}
-use Rattle.steps.specs.Raws.{withRaws}
-use Rattle.steps.specs.Recipe.{taken, rawsBy, remade}
+use Rattle.recipes.specs.Raws.{withRaws}
+use Rattle.recipes.specs.Recipe.{taken, rawsBy, remade}
 use Rattle.steps.specs.Pairs.{eachOf, ofClause}
 use Rattle.steps.specs.Given.{Given}
-use Rattle.steps.specs.declared.Which.the-variants.{Free}
-use Rattle.steps.specs.declared.Turn.the-variants.{Same}
+use Rattle.recipes.specs.declared.Which.the-variants.{Free}
+use Rattle.recipes.specs.declared.Turn.the-variants.{Same}
 use Rattle.permits.proofs.PlaceLaws.{entries-of}
 use Rattle.permits.proofs.SideLaws.{resolve-large}
 use Rattle.meaning.proofs.Basics.{clash}
-use Rattle.steps.proofs.BuildLaws.{raws-append, raws-not, built-not, built-full, built-second}
-use Rattle.steps.proofs.KindLaws.{in-range, map-same, fed-same, raws-keep}
-use Rattle.steps.proofs.PairLaws.{free-is, resolvents-are}
+use Rattle.recipes.proofs.BuildLaws.{raws-append, raws-not, built-not, built-full, built-second}
+use Rattle.recipes.proofs.FreeLaws.{free-is}
+use Rattle.recipes.proofs.FedLaws.{in-range, map-same, raws-keep}
+use Rattle.steps.proofs.KindLaws.{fed-same}
+use Rattle.steps.proofs.PairLaws.{resolvents-are}
 
 free-raws : (a : ℕ) (q : List ℕ) (cs : List (List ℕ)) → allOf (allOf inRange) cs ≡ true → rawsBy (Free (plain a)) Same q 0 cs ≡ withoutVar a cs
 unfolding taken withoutVar

@@ -6,9 +6,9 @@ use mathlib.Core.List.{List, _++_, map}
 use lib.ListN.{length, take}
 use Rattle.meaning.specs.Lists.{keepIf, upFrom}
 use Rattle.meaning.specs.Formula.{Formula, odd, plain, mentions}
-use Rattle.steps.specs.Recipe.{rawsBy}
-use Rattle.steps.specs.declared.Which.the-variants.{Near, Far}
-use Rattle.steps.specs.declared.Turn.the-variants.{Same, Drop, Copy}
+use Rattle.recipes.specs.Recipe.{rawsBy}
+use Rattle.recipes.specs.declared.Which.the-variants.{Near, Far}
+use Rattle.recipes.specs.declared.Turn.the-variants.{Same, Drop, Copy}
 
 -- how many entries are existential
 unfoldable pub existentials : List ℕ → ℕ

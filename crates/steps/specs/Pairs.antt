@@ -6,8 +6,8 @@ use mathlib.Core.Bool.{false, cond}
 use mathlib.Core.List.{List, [], _∷_, _++_}
 use lib.ListN.{length, drop}
 use Rattle.meaning.specs.Lists.{has}
-use Rattle.steps.specs.Recipe.{fed}
-use Rattle.steps.specs.declared.Turn.the-variants.{Drop}
+use Rattle.recipes.specs.Recipe.{fed}
+use Rattle.recipes.specs.declared.Turn.the-variants.{Drop}
 
 -- what comes of each clause, one after the other
 unfoldable pub eachOf : (List ℕ → List (List ℕ)) → List (List ℕ) → List (List ℕ)

@@ -3,12 +3,7 @@ mod copies;
 mod deciding;
 mod expanding;
 mod kinds;
-mod leading;
-mod prefixes;
-mod rebuilding;
-mod recipes;
 mod resolving;
-mod turning;
 
 pub use deciding::is_permitted;
 pub use expanding::expand_into;
@@ -18,28 +13,3 @@ pub use kinds::strengthen_into;
 pub use kinds::subsume_into;
 pub use kinds::unit_into;
 pub use resolving::resolve_into;
-
-// Which clauses of the source are taken.
-pub enum Which {
-    // all; all but one
-    All,
-    But(usize),
-    // those without a literal; those with neither it nor its opposite
-    Without(u16),
-    Free(u16),
-    // those with no variable behind a place of the new prefix; those with one, without a literal
-    Near(usize),
-    Far(usize, u16),
-}
-
-// What becomes of the literals of a clause.
-pub enum Turn {
-    Same,
-    // a literal leaves every clause; it leaves one clause
-    Drop(u16),
-    DropAt(usize, u16),
-    // the first becomes the second, and its opposite the second's
-    Replace(u16, u16),
-    // a literal leaves; a variable behind a place becomes the one so many places further right in the new prefix
-    Copy(u16, usize, u16),
-}

@@ -2,9 +2,9 @@
 -- Assumes nothing.
 use mathlib.Core.Path.{refl, _∙_}
 use Rattle.table.proofs.HoldLaws.{held}
-use Rattle.steps.specs.Left.{about}
-use Rattle.steps.proofs.BuildLaws.{built-done}
-use Rattle.steps.proofs.RawLaws.{ready-after, shrunk-after}
+use Rattle.recipes.specs.Left.{about}
+use Rattle.recipes.proofs.BuildLaws.{built-done}
+use Rattle.recipes.proofs.RawLaws.{ready-after, shrunk-after}
 use Rattle.steps.proofs.ExpandLaws.{expanded-full, expanded-done}
 use borrow.Author.Needs.{needs}
 use Rattle.steps.proofs.expanding.add_expanded.Statement.{statement}

@@ -2,7 +2,7 @@
 -- Assumes nothing.
 use Rattle.steps.proofs.GivenLaws.{begun-rebuild, subsume-made}
 use mathlib.Core.Path.{refl}
-use Rattle.steps.specs.Left.{about}
+use Rattle.recipes.specs.Left.{about}
 use borrow.Author.Needs.{needs}
 use Rattle.steps.proofs.kinds.subsume_into.Statement.{statement}
 use Rattle.steps.proofs.kinds.subsume_into.Tie as tie

@@ -6,8 +6,8 @@ use native.Mathlib.Omega.{arith}
 use lib.Seq.{length-take-le}
 use Rattle.table.proofs.HoldLaws.{bounds}
 use Rattle.table.proofs.PendingLaws.{pends-empty, pended}
-use Rattle.steps.proofs.RecipeLaws.{ready-length}
-use Rattle.steps.proofs.RawLaws.{ready-good, ready-ranks}
+use Rattle.recipes.proofs.RecipeLaws.{ready-length}
+use Rattle.recipes.proofs.RawLaws.{ready-good, ready-ranks}
 use Rattle.steps.proofs.PairLaws.{pair-left, pair-taken}
 use borrow.Author.Needs.{needs}
 use Rattle.steps.proofs.resolving.add_pair.Statement.{statement}

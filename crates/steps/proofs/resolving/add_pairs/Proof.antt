@@ -8,9 +8,9 @@ use lib.ListN.{length, drop}
 use Rattle.meaning.specs.Formula.{Formula}
 use Rattle.table.specs.Table.{Holds}
 use Rattle.table.proofs.HoldLaws.{bounds, held, count-clauses}
-use Rattle.steps.specs.Raws.{Going}
+use Rattle.recipes.specs.Raws.{Going}
 use Rattle.steps.specs.Pairs.{eachOf, ofPair}
-use Rattle.steps.proofs.RawLaws.{ready-as}
+use Rattle.recipes.proofs.RawLaws.{ready-as}
 use Rattle.steps.proofs.PairLaws.{each-next, each-full, each-start, each-stop, within-few, pair-as, pair-silent}
 use borrow.Author.Needs.{needs}
 use Rattle.steps.proofs.resolving.add_pairs.Statement.{statement}

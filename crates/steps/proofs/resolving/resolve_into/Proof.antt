@@ -1,9 +1,9 @@
 -- The clauses without the variable, then the resolvents.
 -- Assumes nothing.
 use mathlib.Core.Path.{refl, _∙_}
-use Rattle.steps.specs.Left.{about}
+use Rattle.recipes.specs.Left.{about}
 use Rattle.table.proofs.HoldLaws.{held}
-use Rattle.steps.proofs.BuildLaws.{built-done}
+use Rattle.recipes.proofs.BuildLaws.{built-done}
 use Rattle.steps.proofs.GivenLaws.{begun-held, begun-rebuild}
 use Rattle.steps.proofs.ResolveLaws.{resolve-never, resolve-full, resolve-done}
 use borrow.Author.Needs.{needs}

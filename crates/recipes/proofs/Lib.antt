@@ -1,0 +1,8 @@
+pub mod RecipeLaws
+pub mod FreeLaws
+pub mod FedLaws
+pub mod PrefixLaws
+pub mod BuildLaws
+pub mod RawLaws
+pub mod LeftLaws
+pub mod LeadLaws

@@ -1,0 +1,4 @@
+pub mod Raws
+pub mod Recipe
+pub mod Left
+pub mod Lead
