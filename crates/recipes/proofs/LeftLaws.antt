@@ -2,7 +2,7 @@
 -- Assumes nothing.
 use Prim.Native.Nat.{ℕ, suc, _+_, _<_}
 use mathlib.Core.Path.{_≡_, refl, sym, ap, _∙_}
-use mathlib.Core.Bool.{Bool, true, false, _&&_, not}
+use mathlib.Core.Bool.{true, false, _&&_, not}
 use mathlib.Core.List.{List, [], _∷_, _++_}
 use lib.Dec.{eqb}
 use lib.ListN.{length, getD, take, drop, take-append-drop}
@@ -12,7 +12,7 @@ use native.Mathlib.Omega.{arith}
 use Rattle.meaning.specs.Lists.{allOf, anyOf, keepIf, same}
 use Rattle.meaning.specs.Formula.{Formula, var, opposite, isVar, mentions, dropVar}
 use Rattle.meaning.specs.Tidy.{kept, tidy}
-use Rattle.meaning.specs.WellFormed.{reduced, tidyClause, distinct, fits}
+use Rattle.meaning.specs.WellFormed.{tidyClause, distinct, fits}
 use Rattle.table.specs.Table.{decode, Holds}
 use Rattle.table.specs.Pending.{inRange}
 use Rattle.table.specs.declared.Counts.{Counts}

@@ -7,7 +7,7 @@ ghost use Prim.Native.Nat.{ℕ};
 ghost use mathlib.Core.Bool.{true, not};
 ghost use mathlib.Core.List.{List, [], _∷_, _++_};
 ghost use lib.ListN.{length, take, drop};
-ghost use Rattle.meaning.specs.Formula.{Formula, dropVar};
+ghost use Rattle.meaning.specs.Formula.{Formula};
 ghost use Rattle.meaning.specs.Tidy.{tidied};
 ghost use Rattle.meaning.specs.WellFormed.{wellFormed};
 ghost use Rattle.table.specs.Table.{emptyFormula, tableOf, decode, withRaw, Holds, Held};

@@ -14,10 +14,9 @@ use native.Mathlib.Nat.{add-suc, suc-add, add-zero}
 use Rattle.meaning.specs.Lists.{allOf, anyOf, has}
 use Rattle.meaning.specs.Formula.{var, odd, plain, negated, isVar, mentions, anyExist}
 use Rattle.meaning.specs.WellFormed.{goodPrefix}
-use Rattle.rules.specs.Eliminate.{allExist, inner, renameVar, renameLit}
+use Rattle.rules.specs.Eliminate.{allExist, renameVar, renameLit}
 use Rattle.permits.specs.Places.{placeFrom, placeOf}
 use Rattle.recipes.specs.Recipe.{reaches, copyOf, copied}
-use Rattle.steps.specs.Copies.{existentials}
 use Rattle.meaning.proofs.Basics.{by-cases, clash, iff, or-l, or-r, or-ir, or-false, not-true, eqb-ne}
 use Rattle.meaning.proofs.Lists.{any-append, any-agree}
 use Rattle.meaning.proofs.Literals.{odd-is, even-is, var-of-plain}

@@ -1,7 +1,6 @@
 // Step 7, expand: the copies of the existentials right of the universal.
 ghost use mathlib.Core.Path.{_≡_};
 ghost use Prim.Native.Nat.{ℕ, _+_, _-_, _≤_};
-ghost use mathlib.Core.Bool.{true};
 ghost use mathlib.Core.List.{List, map};
 ghost use lib.ListN.{length, drop};
 ghost use Rattle.meaning.specs.Formula.{Formula, plain};

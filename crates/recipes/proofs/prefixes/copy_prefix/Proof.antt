@@ -1,6 +1,6 @@
 -- The loop's invariant: the entries so far are copied.
 -- Assumes nothing.
-use Prim.Native.Nat.{ℕ, _≤_, _-_}
+use Prim.Native.Nat.{_≤_, _-_}
 use mathlib.Core.Path.{_≡_, refl, _∙_}
 use native.Mathlib.Omega.{arith}
 use lib.ListN.{length, take}
@@ -9,7 +9,6 @@ use Rattle.table.specs.Table.{Holds}
 use Rattle.table.proofs.HoldLaws.{bounds, held, count-variables}
 use Rattle.recipes.specs.Raws.{bare}
 use Rattle.recipes.proofs.PrefixLaws.{copy-start, copy-fits, copy-turn, copy-end}
-use borrow.Author.Needs.{needs}
 use Rattle.recipes.proofs.prefixes.copy_prefix.Statement.{statement}
 use Rattle.recipes.proofs.prefixes.copy_prefix.Tie as tie
 

@@ -8,7 +8,7 @@ use lib.ListN.{length, take}
 use Rattle.table.specs.Pending.{Pends, Pended}
 use Rattle.table.proofs.PendingLaws.{pended}
 use Rattle.recipes.specs.Recipe.{fed, Ready}
-use Rattle.recipes.proofs.RecipeLaws.{ready-length, feed-start, feed-turn, feed-end}
+use Rattle.recipes.proofs.RecipeLaws.{feed-start, feed-turn, feed-end}
 use borrow.Author.Needs.{needs}
 use Rattle.recipes.proofs.recipes.feed.Statement.{statement}
 use Rattle.recipes.proofs.recipes.feed.Tie as tie

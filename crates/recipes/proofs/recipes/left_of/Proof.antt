@@ -1,7 +1,6 @@
 -- By whether it is that literal.
 -- Assumes nothing.
 use Rattle.recipes.proofs.RecipeLaws.{less-same, less-other}
-use borrow.Author.Needs.{needs}
 use Rattle.recipes.proofs.recipes.left_of.Statement.{statement}
 use Rattle.recipes.proofs.recipes.left_of.Tie as tie
 

@@ -1,6 +1,6 @@
 -- A clause that is taken is fed and closed.
 -- Assumes nothing.
-use mathlib.Core.Path.{sym, _∙_}
+use mathlib.Core.Path.{sym}
 use mathlib.Core.List.{[]}
 use native.Mathlib.Omega.{arith}
 use lib.Seq.{length-take-le}
