@@ -8,6 +8,7 @@ pub mod ResolvRows
 pub mod ResolvFile
 pub mod AnyLaws
 pub mod ListedLaws
+pub mod TriesLaws
 pub mod EarlierLaws
 pub mod ResolvWeigh
 pub mod ResolvStart
