@@ -20,7 +20,8 @@ use Rattle.meaning.proofs.Parts.{good-of}
 use Rattle.meaning.proofs.Prefix.{good-out, good-tail}
 use Rattle.table.proofs.HoldLaws.{prefix-is, count-variables}
 use Rattle.permits.proofs.ScanLaws.{from-stops, from-turn}
-use Rattle.search.proofs.PrefixLaws.{entry-at, any-at}
+use Rattle.table.proofs.LoopLaws.{any-at}
+use Rattle.search.proofs.PrefixLaws.{entry-at}
 
 -- entry i stands left of it: it is the first behind entry i too
 pub universal-stays : (p : List ℕ) (i n : ℕ) → i < length p → fromUniversal (drop i p) ≡ drop n p → i < n → fromUniversal (drop (i + 1) p) ≡ drop n p

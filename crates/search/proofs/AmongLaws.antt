@@ -27,7 +27,8 @@ use Rattle.meaning.proofs.Lists.{all-has, any-has, has-keep}
 use Rattle.rules.proofs.Permitted.{subsume-says, equality-says}
 use Rattle.table.proofs.HoldLaws.{count-clauses}
 use Rattle.index.proofs.ClauseLaws.{with-kept}
-use Rattle.search.proofs.PrefixLaws.{any-at, has-at}
+use Rattle.table.proofs.LoopLaws.{any-at}
+use Rattle.search.proofs.PrefixLaws.{has-at}
 use Rattle.search.proofs.FirstLaws.{first-among, first-none}
 
 has-up : (s n b : ℕ) → s ≤ b → b < s + n → has b (upFrom s n) ≡ true

@@ -15,7 +15,8 @@ use Rattle.index.specs.Index.{clausesWith}
 use Rattle.meaning.proofs.Basics.{eqb-eq, eqb-ne}
 use Rattle.table.proofs.HoldLaws.{count-variables}
 use Rattle.index.proofs.ClauseLaws.{with-some}
-use Rattle.search.proofs.PrefixLaws.{entry-at, any-at}
+use Rattle.table.proofs.LoopLaws.{any-at}
+use Rattle.search.proofs.PrefixLaws.{entry-at}
 
 -- m and n clauses have the plain and the negated literal
 module _ (cs : List (List ℕ)) (v m : ℕ) (is-m : m ≡ length (clausesWith cs (2 * v))) where

@@ -30,7 +30,7 @@ use Rattle.rules.proofs.Permitted.{subsume-says, strengthen-says}
 use Rattle.rules.proofs.Search.{none-pair}
 use Rattle.rules.proofs.Choose.{listed, find-none}
 use Rattle.table.proofs.HoldLaws.{count-clauses}
-use Rattle.search.proofs.PrefixLaws.{any-at}
+use Rattle.table.proofs.LoopLaws.{any-at}
 use Rattle.search.proofs.FirstLaws.{told-none, first-none}
 use Rattle.search.proofs.CandidateLaws.{counts-if, candidateFrom, from-start}
 

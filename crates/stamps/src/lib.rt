@@ -6,7 +6,7 @@ ghost use lib.ListN.{length};
 ghost use Rattle.stamps.specs.Stamp.{hashOf, stamped, withStamp};
 
 // A number of 32 bits, computed from all literals of a clause.
-fn hash_of(clause: &[u16]) -> u64
+pub fn hash_of(clause: &[u16]) -> u64
     ensures { λ r. ⌜ r ≡ hashOf (now (clause .entry)) ⌝ }
 {
     let mut h: u64 = 0;

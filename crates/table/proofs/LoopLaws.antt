@@ -10,7 +10,7 @@ use lib.ListN.{length, getD, take, drop, drop-of-length-le}
 use lib.Seq.{drop-cons, getD-take, length-take-le}
 use native.Mathlib.Numerals.{add-one}
 use Rattle.meaning.specs.Lists.{anyOf, allOf}
-use Rattle.meaning.proofs.Basics.{and-l, and-r}
+use Rattle.meaning.proofs.Basics.{and-l, and-r, or-il, or-ir}
 
 -- d stands past the end
 module _ {A : Type 0} (f : A → Bool) (d : A) (s : List A) (i : ℕ) where
@@ -59,3 +59,10 @@ unfolding allOf
 all-getD f d [] i a h = absurd (not-suc-le-zero h)
 all-getD f d (x ∷ s) zero a h = and-l (f x) (allOf f s) a
 all-getD f d (x ∷ s) (suc i) a h = all-getD f d s i (and-r (f x) (allOf f s) a) (le-of-suc-le-suc h)
+
+-- one that passes is met at index i
+pub any-at : {A : Type 0} (f : A → Bool) (d : A) (s : List A) (i : ℕ) → i < length s → f (getD s i d) ≡ true → anyOf f s ≡ true
+unfolding anyOf
+any-at f d [] i h e = absurd (not-suc-le-zero h)
+any-at f d (x ∷ s) zero h e = or-il (f x) (anyOf f s) e
+any-at f d (x ∷ s) (suc i) h e = or-ir (f x) (anyOf f s) (any-at f d s i (le-of-suc-le-suc h) e)
