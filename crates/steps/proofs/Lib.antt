@@ -1,6 +1,7 @@
 pub mod KindLaws
 pub mod GivenLaws
 pub mod PairLaws
+pub mod IdleLaws
 pub mod CopyLaws
 pub mod DecideLaws
 pub mod ResolveLaws

@@ -5,50 +5,43 @@ use mathlib.Core.Path.{_≡_, refl, sym, ap, _∙_, subst}
 use mathlib.Core.Bool.{Bool, true, false, _&&_, _||_, not, cond}
 use lib.Dec.{eqb}
 use mathlib.Core.List.{List, [], _∷_, _++_}
-use lib.ListN.{length, getD, take, drop, drop-of-length-le}
+use lib.ListN.{length, getD, drop, drop-of-length-le}
 use lib.Seq.{drop-cons}
 use native.Mathlib.Numerals.{add-one}
 use native.Mathlib.Omega.{arith}
-use Rattle.meaning.specs.Lists.{allOf, anyOf, keepIf, has, without}
+use Rattle.meaning.specs.Lists.{anyOf, keepIf, has, without}
 use Rattle.meaning.specs.Formula.{Formula, var, odd, opposite, plain, negated, isVar, mentions}
 use Rattle.meaning.specs.Tidy.{buildOn}
+use Rattle.meaning.specs.WellFormed.{wellFormed}
 use Rattle.rules.specs.Eliminate.{withLit, resolventsOf, resolvents}
 use Rattle.table.specs.Table.{decode, withRaw, Holds}
 use Rattle.table.specs.Answer.{Became, Built}
-use Rattle.table.specs.Pending.{inRange}
 use Rattle.table.specs.declared.Counts.{Counts}
 use Rattle.table.specs.declared.Pushed.{Pushed}
 use Rattle.table.specs.declared.Pushed.the-variants.{Done, Full}
 use Rattle.recipes.specs.Raws.{withRaws, Going}
-use Rattle.recipes.specs.Recipe.{fed}
-use Rattle.steps.specs.Pairs.{eachOf, ofPair, ofClause, Silent, Within}
-use Rattle.recipes.specs.declared.Turn.the-variants.{Drop}
-use Rattle.table.proofs.HoldLaws.{prefix-is, count-clauses}
+use Rattle.steps.specs.Pairs.{eachOf, ofPair, ofClause, Phases, Silent, Within}
+use Rattle.merging.specs.Merging.{joined, Ordered}
+use Rattle.merging.proofs.OrderedLaws.{ordered-at}
+use Rattle.table.proofs.HoldLaws.{count-clauses}
 use Rattle.table.proofs.DecodeLaws.{decode-holds, holds-decoded}
-use Rattle.meaning.proofs.Basics.{by-cases, and-l, and-r}
+use Rattle.meaning.proofs.Basics.{by-cases}
 use Rattle.meaning.proofs.Literals.{plain-is, opp-odd, opp-opp, opp-plain}
 use Rattle.meaning.proofs.Prefix.{eqb-plain, eqb-negated}
 use Rattle.recipes.proofs.BuildLaws.{built-of, built-there, going-start, going-next, going-full, going-end}
-use Rattle.steps.proofs.KindLaws.{fed-drop}
 
 -- One pair --------------------------------------------------------------------------------------------------------
-module _ {ψ : Formula} {t : List ℕ} {d : Counts} (h : Holds ψ t d) (l m : ℕ) (x y : List ℕ) (b : Bool) (is : b ≡ has m y) where
-  pub pair-left : b ≡ false → Built (withRaws ψ (ofPair l m (ψ .prefix) x y)) (d .second) (Done d) t
-  unfolding ofPair withRaws buildOn
-  pair-left n = rw (← is, n) (built-there h)
-
-  pub pair-taken : b ≡ true → (r : Pushed) (t′ : List ℕ) → Became ψ (withRaw ψ (fed (Drop l) (take (d .variables) t) 0 x ++ fed (Drop m) (take (d .variables) t) 0 y)) (d .second) r t′ → Built (withRaws ψ (ofPair l m (ψ .prefix) x y)) (d .second) r t′
-  unfolding ofPair withRaws buildOn withRaw
-  pair-taken n r t′ k =
-      rw (← is, n) (subst (λ (p : List ℕ). Built (withRaw ψ (fed (Drop l) p 0 x ++ fed (Drop m) p 0 y)) (d .second) r t′) (prefix-is h) (built-of k))
+pub pair-made : {l m : ℕ} → Phases l m → (x y : List ℕ) → has m y ≡ true → {ψ : Formula} {s : Bool} {r : Pushed} {t : List ℕ} → Became ψ (withRaw ψ (joined l (l + 1) x y)) s r t → Built (withRaws ψ (ofPair l m x y)) s r t
+unfolding ofPair withRaws buildOn withRaw
+pair-made {l} {m} p x y n k = rw (n, p .next) (built-of k)
 
 -- One clause ------------------------------------------------------------------------------------------------------
-module _ (l m : ℕ) (q : List ℕ) (cs : List (List ℕ)) (x : List ℕ) (b : Bool) (is : b ≡ has l x) where
-  pub clause-left : {ψ : Formula} {t : List ℕ} {d : Counts} → Holds ψ t d → b ≡ false → Built (withRaws ψ (ofClause l m q cs x)) (d .second) (Done d) t
+module _ (l m : ℕ) (cs : List (List ℕ)) (x : List ℕ) (b : Bool) (is : b ≡ has l x) where
+  pub clause-left : {ψ : Formula} {t : List ℕ} {d : Counts} → Holds ψ t d → b ≡ false → Built (withRaws ψ (ofClause l m cs x)) (d .second) (Done d) t
   unfolding ofClause withRaws buildOn
   clause-left {ψ} {t} {d} h n = rw (← is, n) (built-there h)
 
-  pub clause-taken : (ψ : Formula) (s : Bool) (r : Pushed) (t : List ℕ) → b ≡ true → Built (withRaws ψ (eachOf (ofPair l m q x) cs)) s r t → Built (withRaws ψ (ofClause l m q cs x)) s r t
+  pub clause-taken : (ψ : Formula) (s : Bool) (r : Pushed) (t : List ℕ) → b ≡ true → Built (withRaws ψ (eachOf (ofPair l m x) cs)) s r t → Built (withRaws ψ (ofClause l m cs x)) s r t
   unfolding ofClause
   clause-taken ψ s r t n k = rw (← is, n) k
 
@@ -71,9 +64,9 @@ module _ (f : List ℕ → List (List ℕ)) (ψ : Formula) (cs : List (List ℕ)
     each-full = going-full ψ (eachOf f cs) (eachOf f (drop i cs)) b t e g some (eachOf f (drop (i + 1) cs)) split r t′ k
 
 -- Clauses without m -----------------------------------------------------------------------------------------------
-pub pair-silent : (l m : ℕ) (q x : List ℕ) → Silent m (ofPair l m q x)
+pub pair-silent : (l m : ℕ) (x : List ℕ) → Silent m (ofPair l m x)
 unfolding ofPair
-pair-silent l m q x y n = rw n
+pair-silent l m x y n = rw n
 
 module _ (m : ℕ) (cs : List (List ℕ)) (i : ℕ) (h : i < length cs) (y : List ℕ) (is : y ≡ getD cs i []) (n : has m y ≡ false) where
   pub silent-next : (f : List ℕ → List (List ℕ)) → Silent m f → eachOf f (drop i cs) ≡ eachOf f (drop (i + 1) cs)
@@ -90,20 +83,27 @@ silent-back m cs i h k y is n f s e =
     let up : i - 1 + 1 ≡ i = omega arith in
     silent-next m cs (i - 1) (omega arith) y is n f s ∙ ap (λ (x : ℕ). eachOf f (drop x cs)) up ∙ e
 
-pub within-of : {φ : Formula} {source : List ℕ} {c : Counts} → Holds φ source c → (m from to : ℕ) → from ≤ to → to ≤ c .clauses
+pub within-of : {φ : Formula} {source : List ℕ} {c : Counts} → Holds φ source c → wellFormed (decode source c) ≡ true → (l m from to : ℕ) → Phases l m → from ≤ to → to ≤ c .clauses
     → ((χ : Formula) (f : List ℕ → List (List ℕ)) → Holds χ source c → Silent m f → eachOf f (χ .clauses) ≡ eachOf f (drop from (χ .clauses)))
-    → ((χ : Formula) (f : List ℕ → List (List ℕ)) → Holds χ source c → Silent m f → eachOf f (drop to (χ .clauses)) ≡ []) → Within m (decode source c .clauses) from to
-within-of {φ} {source} {c} h m from to o n a b =
+    → ((χ : Formula) (f : List ℕ → List (List ℕ)) → Holds χ source c → Silent m f → eachOf f (drop to (χ .clauses)) ≡ []) → Within l m (decode source c) from to
+within-of {φ} {source} {c} h w l m from to p o n a b =
     record {
+      well = w;
+      phases = p;
       order = o;
       few = omega (arith, n, count-clauses (holds-decoded h));
       skips = λ f s. a (decode source c) f (holds-decoded h) s;
       ends = λ f s. b (decode source c) f (holds-decoded h) s;
     }
 
-module _ {φ : Formula} {source : List ℕ} {c : Counts} (h : Holds φ source c) {m from to : ℕ} (w : Within m (decode source c .clauses) from to) where
+module _ {φ : Formula} {source : List ℕ} {c : Counts} (h : Holds φ source c) {l m from to : ℕ} (w : Within l m (decode source c) from to) where
   pub within-few : to ≤ c .clauses
   within-few = omega (arith, w .few, count-clauses (holds-decoded h))
+
+  -- its clauses can be merged
+  pub within-ordered : (i : ℕ) (y : List ℕ) → y ≡ getD (φ .clauses) i [] → Ordered y
+  within-ordered i y e =
+      rw e (ordered-at φ (rw (decode-holds φ source c h) at (w .well)) (h .fitting) i)
 
   module _ (f : List ℕ → List (List ℕ)) (s : Silent m f) where
     -- what comes of the clauses before is nothing, and of those behind
@@ -117,38 +117,29 @@ module _ {φ : Formula} {source : List ℕ} {c : Counts} (h : Holds φ source c)
         let z : eachOf f (drop to (φ .clauses)) ≡ [] = rw (decode-holds φ source c h) at (w .ends f s) in
         going-end ψ (eachOf f (φ .clauses)) (eachOf f (drop i (φ .clauses))) b t e g (ap (λ (x : ℕ). eachOf f (drop x (φ .clauses))) q ∙ z)
 
-pub pair-as : (l m : ℕ) (x c y p q : List ℕ) → p ≡ q → c ≡ y → ofPair l m p x c ≡ ofPair l m q x y
-pair-as l m x c y p q e d = ap (λ (z : List ℕ). ofPair l m z x c) e ∙ ap (ofPair l m q x) d
-
-pub clause-as : (l m : ℕ) (cs : List (List ℕ)) (c y p q : List ℕ) → p ≡ q → c ≡ y → ofClause l m p cs c ≡ ofClause l m q cs y
-clause-as l m cs c y p q e d = ap (λ (z : List ℕ). ofClause l m z cs c) e ∙ ap (ofClause l m q cs) d
-
 -- They are document 01's resolvents -----------------------------------------------------------------------------------
-module _ (a : ℕ) (q : List ℕ) where
-  pairs-are : (x : List ℕ) (ys : List (List ℕ)) → allOf inRange x ≡ true → allOf (allOf inRange) ys ≡ true → eachOf (ofPair (plain a) (negated a) q x) ys ≡ resolventsOf a x (withLit (negated a) ys)
-  unfolding eachOf ofPair withLit keepIf resolventsOf allOf
-  pairs-are x [] h k = refl
-  pairs-are x (y ∷ ys) h k =
-      rw (fed-drop (plain a) q 0 x h, fed-drop (negated a) q 0 y (and-l (allOf inRange y) (allOf (allOf inRange) ys) k))
-      (go (has (negated a) y) (pairs-are x ys h (and-r (allOf inRange y) (allOf (allOf inRange) ys) k)))
+module _ (a : ℕ) where
+  pairs-are : (x : List ℕ) (ys : List (List ℕ)) → eachOf (ofPair (plain a) (negated a) x) ys ≡ resolventsOf a x (withLit (negated a) ys)
+  unfolding eachOf ofPair joined withLit keepIf resolventsOf
+  pairs-are x [] = refl
+  pairs-are x (y ∷ ys) = go (has (negated a) y) (pairs-are x ys)
     where
       rest : List (List ℕ)
-      rest = eachOf (ofPair (plain a) (negated a) q x) ys
+      rest = eachOf (ofPair (plain a) (negated a) x) ys
 
       go : (b : Bool) → rest ≡ resolventsOf a x (withLit (negated a) ys) → cond b ((without (plain a) x ++ without (negated a) y) ∷ []) [] ++ rest ≡ resolventsOf a x (cond b (y ∷ withLit (negated a) ys) (withLit (negated a) ys))
       go true ih = ap (λ (z : List (List ℕ)). (without (plain a) x ++ without (negated a) y) ∷ z) ih
       go false ih = ih
 
-  pub resolvents-are : (xs ys : List (List ℕ)) → allOf (allOf inRange) xs ≡ true → allOf (allOf inRange) ys ≡ true → eachOf (ofClause (plain a) (negated a) q ys) xs ≡ resolvents a (withLit (plain a) xs) (withLit (negated a) ys)
-  unfolding eachOf ofClause withLit keepIf resolvents allOf
-  resolvents-are [] ys h k = refl
-  resolvents-are (x ∷ xs) ys h k =
-      go (has (plain a) x) (pairs-are x ys (and-l (allOf inRange x) (allOf (allOf inRange) xs) h) k) (resolvents-are xs ys (and-r (allOf inRange x) (allOf (allOf inRange) xs) h) k)
+  pub resolvents-are : (xs ys : List (List ℕ)) → eachOf (ofClause (plain a) (negated a) ys) xs ≡ resolvents a (withLit (plain a) xs) (withLit (negated a) ys)
+  unfolding eachOf ofClause withLit keepIf resolvents
+  resolvents-are [] ys = refl
+  resolvents-are (x ∷ xs) ys = go (has (plain a) x) (pairs-are x ys) (resolvents-are xs ys)
     where
       rest : List (List ℕ)
-      rest = eachOf (ofClause (plain a) (negated a) q ys) xs
+      rest = eachOf (ofClause (plain a) (negated a) ys) xs
 
-      go : (b : Bool) → eachOf (ofPair (plain a) (negated a) q x) ys ≡ resolventsOf a x (withLit (negated a) ys) → rest ≡ resolvents a (withLit (plain a) xs) (withLit (negated a) ys)
-          → cond b (eachOf (ofPair (plain a) (negated a) q x) ys) [] ++ rest ≡ resolvents a (cond b (x ∷ withLit (plain a) xs) (withLit (plain a) xs)) (withLit (negated a) ys)
+      go : (b : Bool) → eachOf (ofPair (plain a) (negated a) x) ys ≡ resolventsOf a x (withLit (negated a) ys) → rest ≡ resolvents a (withLit (plain a) xs) (withLit (negated a) ys)
+          → cond b (eachOf (ofPair (plain a) (negated a) x) ys) [] ++ rest ≡ resolvents a (cond b (x ∷ withLit (plain a) xs) (withLit (plain a) xs)) (withLit (negated a) ys)
       go true e ih = rw (e, ih)
       go false e ih = ih

@@ -3,6 +3,7 @@ mod copies;
 mod deciding;
 mod expanding;
 mod kinds;
+mod pairs;
 mod resolving;
 
 pub use deciding::is_permitted;

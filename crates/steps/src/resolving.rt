@@ -1,94 +1,51 @@
 // Step 6, resolve: after the clauses without x, the resolvents by positive clause, then negative.
 ghost use mathlib.Core.Path.{_≡_};
-ghost use Prim.Native.Nat.{ℕ, _≤_};
+ghost use Prim.Native.Nat.{_+_, _<_};
 ghost use mathlib.Core.Bool.{true, not};
-ghost use mathlib.Core.List.{List, []};
-ghost use lib.ListN.{length, take, drop};
+ghost use lib.ListN.{length, take};
 ghost use Rattle.meaning.specs.Formula.{Formula};
-ghost use Rattle.table.specs.Table.{decode, Holds, Held};
-ghost use Rattle.table.specs.Answer.{Built};
+ghost use Rattle.meaning.specs.WellFormed.{wellFormed};
+ghost use Rattle.table.specs.Table.{decode, withRaw, Holds, Held};
+ghost use Rattle.table.specs.Answer.{Became, Built};
 ghost use Rattle.rules.specs.Entry.{resolve};
 ghost use Rattle.rules.specs.Step.{permitted, resultOf};
+ghost use Rattle.merging.specs.Merging.{joined, Ordered};
 ghost use Rattle.steps.specs.Given.{Given, Begun};
 ghost use Rattle.recipes.specs.Raws.{withRaws};
 ghost use Rattle.recipes.specs.Recipe.{Ready};
-ghost use Rattle.steps.specs.Pairs.{eachOf, ofPair, ofClause, Silent, Within};
+ghost use Rattle.steps.specs.Pairs.{eachOf, ofPair, ofClause, Phases, Within};
+use crate::pairs::end_with;
+use crate::pairs::first_with;
+use crate::pairs::next_pair;
+use crate::pairs::opposite_bits;
+use hints::close_hinted;
+use merging::merge_in;
 use recipes::Turn;
 use recipes::Which;
-use recipes::feed;
 use recipes::rebuild;
 use table::Counts;
-use table::Pending;
 use table::Pushed;
 use table::clause_at;
-use table::close_clause;
 use table::contains;
 
-// The resolvent of x, which has the positive literal, and y, where y has the negative one.
+// The resolvent of x, which has the positive literal, and y, which has the negative one.
 fn add_pair(
     target: &mut [u16],
     d: Counts,
     x: &[u16],
     y: &[u16],
     positive: u16,
-    negative: u16,
     scratch: &mut [u16],
     ranks: &[u16],
 ) -> Pushed
     requires { ⌜ Held (now target) d ⌝ }
     requires { ⌜ Ready (take (d .variables) (now target)) (now ranks) ⌝ }
-    requires { ⌜ length (now scratch) ≡ 1023 ⌝ }
-    ensures { λ r. ⌜ ((ψ : Formula) → Holds ψ (now (target .entry)) d → Built (withRaws ψ (ofPair positive negative (ψ .prefix) (now (x .entry)) (now (y .entry)))) (d .second) r (now (target .exit))) ⌝ }
+    requires { ⌜ (length (now scratch) ≡ 1023) × (positive < 2047) ⌝ }
+    requires { ⌜ Ordered (now x) × Ordered (now y) ⌝ }
+    ensures { λ r. ⌜ ((ψ : Formula) → Holds ψ (now (target .entry)) d → Became ψ (withRaw ψ (joined positive (positive + 1) (now (x .entry)) (now (y .entry)))) (d .second) r (now (target .exit))) ⌝ }
 {
-    if contains(y, negative) {
-        let n = d.variables;
-        let p = feed(
-            scratch,
-            Pending::empty(),
-            x,
-            0,
-            Turn::Drop(positive),
-            &target[..n],
-            ranks,
-        );
-        let w = feed(scratch, p, y, 0, Turn::Drop(negative), &target[..n], ranks);
-        return close_clause(target, d, scratch, w, ranks);
-    }
-    Pushed::Done(d)
-}
-
-// The first clause that has the literal; the number of clauses where none has it.
-fn first_with(source: &[u16], c: Counts, literal: u16) -> usize
-    requires { ⌜ Held (now source) c ⌝ }
-    ensures { λ r. ⌜ r ≤ c .clauses ⌝ }
-    ensures { λ r. ⌜ ((φ : Formula) (f : List ℕ → List (List ℕ)) → Holds φ (now (source .entry)) c → Silent literal f → eachOf f (φ .clauses) ≡ eachOf f (drop r (φ .clauses))) ⌝ }
-{
-    let mut i = 0;
-    while i < c.clauses {
-        if contains(clause_at(source, c, i), literal) {
-            return i;
-        }
-        i += 1;
-    }
-    i
-}
-
-// One behind the last clause, from this one on, that has the literal.
-fn end_with(source: &[u16], c: Counts, literal: u16, from: usize) -> usize
-    requires { ⌜ Held (now source) c ⌝ }
-    requires { ⌜ from ≤ c .clauses ⌝ }
-    ensures { λ r. ⌜ (from ≤ r) × (r ≤ c .clauses) ⌝ }
-    ensures { λ r. ⌜ ((φ : Formula) (f : List ℕ → List (List ℕ)) → Holds φ (now (source .entry)) c → Silent literal f → eachOf f (drop r (φ .clauses)) ≡ []) ⌝ }
-{
-    let mut i = c.clauses;
-    while from < i {
-        let k = i - 1;
-        if contains(clause_at(source, c, k), literal) {
-            return i;
-        }
-        i = k;
-    }
-    i
+    let p = merge_in(scratch, x, y, positive);
+    close_hinted(target, d, scratch, p, ranks)
 }
 
 // The resolvents of x and all clauses; those with the negative literal are among the clauses from one to another.
@@ -109,11 +66,13 @@ fn add_pairs(
     requires { ⌜ Held (now target) d ⌝ }
     requires { ⌜ Ready (take (d .variables) (now target)) (now ranks) ⌝ }
     requires { ⌜ length (now scratch) ≡ 1023 ⌝ }
-    requires { ⌜ Within negative (decode (now source) c .clauses) from to ⌝ }
-    ensures { λ r. ⌜ ((φ ψ : Formula) → Holds φ (now (source .entry)) c → Holds ψ (now (target .entry)) d → Built (withRaws ψ (eachOf (ofPair positive negative (ψ .prefix) (now (x .entry))) (φ .clauses))) (d .second) r (now (target .exit))) ⌝ }
+    requires { ⌜ Within positive negative (decode (now source) c) from to ⌝ }
+    requires { ⌜ Ordered (now x) ⌝ }
+    ensures { λ r. ⌜ ((φ ψ : Formula) → Holds φ (now (source .entry)) c → Holds ψ (now (target .entry)) d → Built (withRaws ψ (eachOf (ofPair positive negative (now (x .entry))) (φ .clauses))) (d .second) r (now (target .exit))) ⌝ }
 {
+    let bits = opposite_bits(x);
     let mut e = d;
-    let mut i = from;
+    let mut i = next_pair(source, c, x, bits, negative, from, to);
     while i < to {
         match add_pair(
             target,
@@ -121,7 +80,6 @@ fn add_pairs(
             x,
             clause_at(source, c, i),
             positive,
-            negative,
             scratch,
             ranks,
         ) {
@@ -138,7 +96,7 @@ fn add_pairs(
                 return Pushed::Full;
             }
         }
-        i += 1;
+        i = next_pair(source, c, x, bits, negative, i + 1, to);
     }
     Pushed::Done(e)
 }
@@ -161,8 +119,9 @@ fn add_clause_pairs(
     requires { ⌜ Held (now target) d ⌝ }
     requires { ⌜ Ready (take (d .variables) (now target)) (now ranks) ⌝ }
     requires { ⌜ length (now scratch) ≡ 1023 ⌝ }
-    requires { ⌜ Within negative (decode (now source) c .clauses) from to ⌝ }
-    ensures { λ r. ⌜ ((φ ψ : Formula) → Holds φ (now (source .entry)) c → Holds ψ (now (target .entry)) d → Built (withRaws ψ (ofClause positive negative (ψ .prefix) (φ .clauses) (now (x .entry)))) (d .second) r (now (target .exit))) ⌝ }
+    requires { ⌜ Within positive negative (decode (now source) c) from to ⌝ }
+    requires { ⌜ Ordered (now x) ⌝ }
+    ensures { λ r. ⌜ ((φ ψ : Formula) → Holds φ (now (source .entry)) c → Holds ψ (now (target .entry)) d → Built (withRaws ψ (ofClause positive negative (φ .clauses) (now (x .entry)))) (d .second) r (now (target .exit))) ⌝ }
 {
     if contains(x, positive) {
         return add_pairs(
@@ -199,8 +158,8 @@ fn add_by_positive(
     requires { ⌜ Held (now target) d ⌝ }
     requires { ⌜ Ready (take (d .variables) (now target)) (now ranks) ⌝ }
     requires { ⌜ length (now scratch) ≡ 1023 ⌝ }
-    requires { ⌜ Within negative (decode (now source) c .clauses) from to ⌝ }
-    ensures { λ r. ⌜ ((φ ψ : Formula) → Holds φ (now (source .entry)) c → Holds ψ (now (target .entry)) d → Built (withRaws ψ (eachOf (ofClause positive negative (ψ .prefix) (φ .clauses)) (φ .clauses))) (d .second) r (now (target .exit))) ⌝ }
+    requires { ⌜ Within positive negative (decode (now source) c) from to ⌝ }
+    ensures { λ r. ⌜ ((φ ψ : Formula) → Holds φ (now (source .entry)) c → Holds ψ (now (target .entry)) d → Built (withRaws ψ (eachOf (ofClause positive negative (φ .clauses)) (φ .clauses))) (d .second) r (now (target .exit))) ⌝ }
 {
     let mut e = d;
     let mut i = 0;
@@ -250,7 +209,8 @@ fn add_resolvents(
     requires { ⌜ Held (now target) d ⌝ }
     requires { ⌜ Ready (take (d .variables) (now target)) (now ranks) ⌝ }
     requires { ⌜ length (now scratch) ≡ 1023 ⌝ }
-    ensures { λ r. ⌜ ((φ ψ : Formula) → Holds φ (now (source .entry)) c → Holds ψ (now (target .entry)) d → Built (withRaws ψ (eachOf (ofClause positive negative (ψ .prefix) (φ .clauses)) (φ .clauses))) (d .second) r (now (target .exit))) ⌝ }
+    requires { ⌜ (wellFormed (decode (now source) c) ≡ true) × Phases positive negative ⌝ }
+    ensures { λ r. ⌜ ((φ ψ : Formula) → Holds φ (now (source .entry)) c → Holds ψ (now (target .entry)) d → Built (withRaws ψ (eachOf (ofClause positive negative (φ .clauses)) (φ .clauses))) (d .second) r (now (target .exit))) ⌝ }
 {
     let from = first_with(source, c, negative);
     let to = end_with(source, c, negative, from);

@@ -1,7 +1,7 @@
 -- The loop's invariant: what is left of the clauses goes on from what is in the target.
 -- Assumes nothing.
 use Prim.Native.Nat.{ℕ, _≤_, _-_}
-use mathlib.Core.Path.{_≡_, refl, _∙_}
+use mathlib.Core.Path.{_≡_, refl, ap, _∙_}
 use native.Mathlib.Omega.{arith}
 use lib.ListN.{length, drop}
 use Rattle.meaning.specs.Formula.{Formula}
@@ -11,13 +11,13 @@ use Rattle.recipes.specs.Raws.{Going}
 use Rattle.steps.specs.Pairs.{eachOf, ofClause}
 use Rattle.recipes.proofs.BuildLaws.{going-start}
 use Rattle.recipes.proofs.RawLaws.{ready-as}
-use Rattle.steps.proofs.PairLaws.{each-next, each-full, each-end, clause-as}
+use Rattle.steps.proofs.PairLaws.{each-next, each-full, each-end, within-ordered}
 use borrow.Author.Needs.{needs}
 use Rattle.steps.proofs.resolving.add_by_positive.Statement.{statement}
 use Rattle.steps.proofs.resolving.add_by_positive.Tie as tie
 
 abbrev Inv-loop : tie.InvT-loop
-Inv-loop source c target₀ positive negative from to scratch₀ ranks e₀ i₀ target scratch e i = (i ≤ c .clauses) × (length target ≡ length target₀) × (length scratch ≡ length scratch₀) × ((φ ψ : Formula) → Holds φ source c → Holds ψ target₀ e₀ → Going ψ (eachOf (ofClause positive negative (ψ .prefix) (φ .clauses)) (φ .clauses)) (eachOf (ofClause positive negative (ψ .prefix) (φ .clauses)) (drop i (φ .clauses))) (e₀ .second) target e)
+Inv-loop source c target₀ positive negative from to scratch₀ ranks e₀ i₀ target scratch e i = (i ≤ c .clauses) × (length target ≡ length target₀) × (length scratch ≡ length scratch₀) × ((φ ψ : Formula) → Holds φ source c → Holds ψ target₀ e₀ → Going ψ (eachOf (ofClause positive negative (φ .clauses)) (φ .clauses)) (eachOf (ofClause positive negative (φ .clauses)) (drop i (φ .clauses))) (e₀ .second) target e)
 
 abbrev μ-loop : tie.MeasureT-loop
 μ-loop source c target₀ positive negative from to scratch₀ ranks e₀ i₀ target scratch e i = c .clauses - i
@@ -32,7 +32,7 @@ add-clause-pairs-requires : tie.Need-add-clause-pairs-requires Inv-loop μ-loop
 add-clause-pairs-requires c κs = let l = c .before .before .before .before .before in let s = l .before .before .before .before .before in
     let k = s .pre .1 .0 .holds in
     let g = l .loop .inv .3 (s .pre .0 .formula) (s .pre .1 .0 .formula) (s .pre .0 .holds) k in
-    (s .pre .0, (held (g .holds), (ready-as k (s .pre .1 .1 .0) (g .holds) (g .prefix), (l .loop .inv .2 ∙ s .pre .1 .1 .1 .0, s .pre .1 .1 .1 .1))))
+    (s .pre .0, (held (g .holds), (ready-as k (s .pre .1 .1 .0) (g .holds) (g .prefix), (l .loop .inv .2 ∙ s .pre .1 .1 .1 .0, (s .pre .1 .1 .1 .1, within-ordered (s .pre .0 .holds) (s .pre .1 .1 .1 .1) (l .loop .i) _ (c .before .clause-at .ensures _ (s .pre .0 .holds)))))))
 
 enum-known-next : tie.Need-enum-known-next Inv-loop μ-loop
 enum-known-next c = search needs
@@ -48,7 +48,7 @@ same-length-2 c = let a = c .before .before .before .before .before .before in a
 
 returns : tie.Need-returns Inv-loop μ-loop
 returns c = let a = c .before .before .before .before .before .before in let k = a .before .before in let l = k .before .before .before .before in
-    λ φ ψ h q. let g = l .loop .inv .3 φ ψ h q in each-full (ofClause _ _ (ψ .prefix) (φ .clauses)) ψ (φ .clauses) _ _ _ (l .loop .i) g (omega (arith, count-clauses h, k .before .before .if1 .taken)) _ (clause-as _ _ _ _ _ _ _ (g .prefix) (k .clause-at .ensures φ h)) _ _ (a .add-clause-pairs .ensures φ (g .formula) h (g .holds)) (c .enum-told .given .1)
+    λ φ ψ h q. let g = l .loop .inv .3 φ ψ h q in each-full (ofClause _ _ (φ .clauses)) ψ (φ .clauses) _ _ _ (l .loop .i) g (omega (arith, count-clauses h, k .before .before .if1 .taken)) _ (ap (ofClause _ _ (φ .clauses)) (k .clause-at .ensures φ h)) _ _ (a .add-clause-pairs .ensures φ (g .formula) h (g .holds)) (c .enum-told .given .1)
 
 add-i : tie.Need-add-i Inv-loop μ-loop
 add-i c = let l = c .before .before .before .before .before .before .before .before .before .before .before .before .before in let b = bounds (l .before .before .before .before .before .pre .0) in omega (arith, c .before .before .before .before .before .before .before .before .before .before .before .if1 .taken)
@@ -61,7 +61,7 @@ loop-again c = let a = c .before .before .before .before .before .before .before
   omega (arith, k .before .before .if1 .taken),
   a .add-clause-pairs .kept .1 .1 .0 ∙ l .loop .inv .1,
   a .add-clause-pairs .kept .1 .1 .1 .1 .1 .1 .1 .1 .1 .0 ∙ l .loop .inv .2,
-  λ φ ψ h q. let g = l .loop .inv .3 φ ψ h q in each-next (ofClause _ _ (ψ .prefix) (φ .clauses)) ψ (φ .clauses) _ _ _ (l .loop .i) g (omega (arith, count-clauses h, k .before .before .if1 .taken)) _ (clause-as _ _ _ _ _ _ _ (g .prefix) (k .clause-at .ensures φ h)) _ _ (a .add-clause-pairs .ensures φ (g .formula) h (g .holds)) _ (c .before .next .given .1),
+  λ φ ψ h q. let g = l .loop .inv .3 φ ψ h q in each-next (ofClause _ _ (φ .clauses)) ψ (φ .clauses) _ _ _ (l .loop .i) g (omega (arith, count-clauses h, k .before .before .if1 .taken)) _ (ap (ofClause _ _ (φ .clauses)) (k .clause-at .ensures φ h)) _ _ (a .add-clause-pairs .ensures φ (g .formula) h (g .holds)) _ (c .before .next .given .1),
 )
 
 same-length-3 : tie.Need-same-length-3 Inv-loop μ-loop
@@ -71,7 +71,7 @@ same-length-4 : tie.Need-same-length-4 Inv-loop μ-loop
 same-length-4 c = c .before .before .loop .inv .2
 
 returns-2 : tie.Need-returns-2 Inv-loop μ-loop
-returns-2 c = let l = c .before .before in λ φ ψ h k. each-end (ofClause _ _ (ψ .prefix) (φ .clauses)) ψ (φ .clauses) _ _ _ (l .loop .i) (l .loop .inv .3 φ ψ h k) (omega (arith, count-clauses h, c .if1 .left))
+returns-2 c = let l = c .before .before in λ φ ψ h k. each-end (ofClause _ _ (φ .clauses)) ψ (φ .clauses) _ _ _ (l .loop .i) (l .loop .inv .3 φ ψ h k) (omega (arith, count-clauses h, c .if1 .left))
 
 pub add-by-positive-spec : {M : Type 1} → statement M
 add-by-positive-spec =

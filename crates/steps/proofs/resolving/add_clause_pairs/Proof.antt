@@ -18,10 +18,10 @@ same-length-2 : tie.Need-same-length-2
 same-length-2 c = search needs
 
 returns : tie.Need-returns
-returns c = let a = c .before .before .before .before in let t = a .before .before .before in λ φ ψ h k. clause-taken _ _ _ (φ .clauses) _ _ (t .before .contains .ensures) ψ _ _ _ (t .if1 .taken) (a .add-pairs .ensures φ ψ h k)
+returns c = let a = c .before .before .before .before in let t = a .before .before .before in λ φ ψ h k. clause-taken _ _ (φ .clauses) _ _ (t .before .contains .ensures) ψ _ _ _ (t .if1 .taken) (a .add-pairs .ensures φ ψ h k)
 
 returns-2 : tie.Need-returns-2
-returns-2 c = λ φ ψ h k. clause-left _ _ _ _ _ _ (c .before .contains .ensures) k (c .if1 .left)
+returns-2 c = λ φ ψ h k. clause-left _ _ _ _ _ (c .before .contains .ensures) k (c .if1 .left)
 
 pub add-clause-pairs-spec : {M : Type 1} → statement M
 add-clause-pairs-spec =

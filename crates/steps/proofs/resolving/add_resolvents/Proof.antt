@@ -16,7 +16,7 @@ add-by-positive-requires c κs =
     let e = c .before .before in
     let b = e .before in
     let s = b .before .before .before .before .before in
-    (s .pre .0, (s .pre .1 .0, (s .pre .1 .1 .0, (s .pre .1 .1 .1, within-of (s .pre .0 .holds) _ _ _ (e .end-with .ensures .0 .0) (e .end-with .ensures .0 .1) (b .first-with .ensures .1) (e .end-with .ensures .1)))))
+    (s .pre .0, (s .pre .1 .0, (s .pre .1 .1 .0, (s .pre .1 .1 .1 .0, within-of (s .pre .0 .holds) (s .pre .1 .1 .1 .1 .0) _ _ _ _ (s .pre .1 .1 .1 .1 .1) (e .end-with .ensures .0 .0) (e .end-with .ensures .0 .1) (b .first-with .ensures .1) (e .end-with .ensures .1)))))
 
 same-length : tie.Need-same-length
 same-length c = search needs

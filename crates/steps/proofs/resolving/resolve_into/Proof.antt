@@ -1,11 +1,12 @@
 -- The clauses without the variable, then the resolvents.
 -- Assumes nothing.
 use mathlib.Core.Path.{refl, _∙_}
+use native.Mathlib.Omega.{arith}
 use Rattle.recipes.specs.Left.{about}
 use Rattle.table.proofs.HoldLaws.{held}
 use Rattle.recipes.proofs.BuildLaws.{built-done}
 use Rattle.steps.proofs.GivenLaws.{begun-held, begun-rebuild}
-use Rattle.steps.proofs.ResolveLaws.{resolve-never, resolve-full, resolve-done}
+use Rattle.steps.proofs.ResolveLaws.{phases-of, resolve-well, resolve-never, resolve-full, resolve-done}
 use borrow.Author.Needs.{needs}
 use Rattle.steps.proofs.resolving.resolve_into.Statement.{statement}
 use Rattle.steps.proofs.resolving.resolve_into.Tie as tie
@@ -32,7 +33,7 @@ enum-known-d : tie.Need-enum-known-d
 enum-known-d c = search needs
 
 add-resolvents-requires : tie.Need-add-resolvents-requires
-add-resolvents-requires c κs = let d = c .before .before .before .before in let k = d .before .before .before .before .before .before .before .before in let b = k .before .before .before .before .before .before .before .before .before .pre in (begun-held b, (held (built-done _ _ _ _ (k .rebuild .ensures .0 (b .formula) (b .given .holds)) _ (d .d .given .1)), (k .rebuild .ensures .1 _ (d .d .given .1), k .rebuild .kept .1 .1 .1 .1 .1 .1 .0 ∙ b .room)))
+add-resolvents-requires c κs = let d = c .before .before .before .before in let k = d .before .before .before .before .before .before .before .before in let b = k .before .before .before .before .before .before .before .before .before .pre in (begun-held b, (held (built-done _ _ _ _ (k .rebuild .ensures .0 (b .formula) (b .given .holds)) _ (d .d .given .1)), (k .rebuild .ensures .1 _ (d .d .given .1), (k .rebuild .kept .1 .1 .1 .1 .1 .1 .0 ∙ b .room, (resolve-well (b .given), phases-of _ (omega (arith, k .before .before .before .before .if1 .left)))))))
 
 enum-told : tie.Need-enum-told
 enum-told c = search needs

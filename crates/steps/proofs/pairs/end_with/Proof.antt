@@ -11,8 +11,8 @@ use Rattle.table.proofs.HoldLaws.{count-clauses}
 use Rattle.steps.specs.Pairs.{eachOf, Silent}
 use Rattle.steps.proofs.PairLaws.{each-none, silent-back}
 use borrow.Author.Needs.{needs}
-use Rattle.steps.proofs.resolving.end_with.Statement.{statement}
-use Rattle.steps.proofs.resolving.end_with.Tie as tie
+use Rattle.steps.proofs.pairs.end_with.Statement.{statement}
+use Rattle.steps.proofs.pairs.end_with.Tie as tie
 
 abbrev Inv-loop : tie.InvT-loop
 Inv-loop source c literal from i₀ i = (from ≤ i) × (i ≤ c .clauses) × ((φ : Formula) (f : List ℕ → List (List ℕ)) → Holds φ source c → Silent literal f → eachOf f (drop i (φ .clauses)) ≡ [])

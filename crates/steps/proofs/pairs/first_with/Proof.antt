@@ -11,8 +11,8 @@ use Rattle.table.proofs.HoldLaws.{bounds, count-clauses}
 use Rattle.steps.specs.Pairs.{eachOf, Silent}
 use Rattle.steps.proofs.PairLaws.{silent-next}
 use borrow.Author.Needs.{needs}
-use Rattle.steps.proofs.resolving.first_with.Statement.{statement}
-use Rattle.steps.proofs.resolving.first_with.Tie as tie
+use Rattle.steps.proofs.pairs.first_with.Statement.{statement}
+use Rattle.steps.proofs.pairs.first_with.Tie as tie
 
 abbrev Inv-loop : tie.InvT-loop
 Inv-loop source c literal i₀ i = (i ≤ c .clauses) × ((φ : Formula) (f : List ℕ → List (List ℕ)) → Holds φ source c → Silent literal f → eachOf f (φ .clauses) ≡ eachOf f (drop i (φ .clauses)))
