@@ -23,7 +23,6 @@ use Rattle.weigh.specs.Earlier.{makes, makesWith, ownOf, otherOf, partne
 use Rattle.meaning.proofs.Basics.{by-cases, clash, and-l, and-r, or-il, or-ir}
 use Rattle.meaning.proofs.Lists.{any-append, any-agree, any-keep, all-kept, all-has, all-of-has}
 use Rattle.table.proofs.LoopLaws.{all-getD}
-use Rattle.index.proofs.ClauseLaws.{with-length}
 use Rattle.weigh.proofs.AnyLaws.{any-and, any-either, none}
 use Rattle.weigh.proofs.ListedLaws.{listed-take}
 use Rattle.weigh.proofs.ResolvPairs.{one-length}

@@ -1,16 +1,16 @@
 -- A clause with a literal that tidying does not take away has no resolvent without it.
 -- Assumes nothing.
-use Prim.Native.Nat.{ℕ, zero, suc, _/_, _≤_, _<_}
+use Prim.Native.Nat.{ℕ, zero, suc, _/_}
 use mathlib.Core.Path.{_≡_, refl, sym, ap, _∙_}
 use mathlib.Core.Bool.{Bool, true, false, _||_, not, cond}
-use mathlib.Core.List.{List, [], _∷_, _++_}
+use mathlib.Core.List.{List, [], _∷_}
 use lib.ListN.{take}
 use lib.Dec.{eqb}
-use Rattle.meaning.specs.Lists.{allOf, anyOf, keepIf, has, same, without}
+use Rattle.meaning.specs.Lists.{allOf, has, without}
 use Rattle.meaning.specs.Formula.{var, plain, negated, universal}
 use Rattle.meaning.specs.Tidy.{ascending, bothPhases, stays, reduce, dropped, kept, tidySorted, tidy}
 use Rattle.weigh.specs.Resolving.{resolvent, becomes, staysIn, fitsIn}
-use Rattle.meaning.proofs.Basics.{by-cases, false-of, clash, and-i, and-l, and-r, eqb-eq, eqb-ne, eqb-sym, or-il, or-ir}
+use Rattle.meaning.proofs.Basics.{by-cases, false-of, clash, and-i, and-l, and-r, eqb-eq, eqb-ne, or-il, or-ir}
 use Rattle.meaning.proofs.Lists.{any-append, any-ascending, same-path, all-of-has, has-keep}
 
 -- The test of one literal ------------------------------------------------------------------------------------------------

@@ -3,23 +3,23 @@
 use Prim.Native.Nat.{ℕ, zero, suc, _+_, _-_, _*_, _≤_, _<_}
 use mathlib.Core.Path.{_≡_, refl, sym, ap, _∙_}
 use mathlib.Core.Bool.{Bool, true, false, _||_}
-use mathlib.Core.List.{List, [], _∷_, _++_}
+use mathlib.Core.List.{List, [], _∷_}
 use lib.ListN.{length, getD, take, drop, take-append-drop}
 use lib.Seq.{take-append-le, drop-append-add, take-add, drop-drop, take-nil, getD-take, length-take-le}
 use native.Mathlib.Omega.{arith}
 use native.Mathlib.Nat.{zero-mul, suc-mul, mul-le-mul-right, not-suc-le-zero, le-of-suc-le-suc}
 use native.Mathlib.Numerals.{add-one}
 use Rattle.meaning.specs.Lists.{allOf, anyOf}
-use Rattle.meaning.specs.Formula.{Formula, mentions, plain, negated}
+use Rattle.meaning.specs.Formula.{Formula, plain, negated}
 use Rattle.meaning.specs.Tidy.{tidy}
 use Rattle.meaning.specs.WellFormed.{wellFormed, bound}
 use Rattle.rules.specs.Eliminate.{withLit, resolventsOf, resolvents}
 use Rattle.weigh.specs.Resolving.{restOf, resolvent, becomes, fitsIn, rawResolvents, pairs, anyGives, rowGives, cameBefore}
-use Rattle.meaning.proofs.Basics.{and-l, and-r, and-i, or-il, false-of, clash}
+use Rattle.meaning.proofs.Basics.{and-l, and-r}
 use Rattle.meaning.proofs.Lists.{any-append, any-agree, all-append}
 use Rattle.meaning.proofs.TidyPrefix.{tidy-drop}
 use Rattle.table.proofs.LoopLaws.{any-found, any-turn, any-end}
-use Rattle.weigh.proofs.ResolvPairs.{one-length, pairs-length}
+use Rattle.weigh.proofs.ResolvPairs.{one-length}
 use Rattle.weigh.proofs.ResolvResult.{raws-bound, raw-free}
 use Rattle.weigh.proofs.ResolvFits.{not-fits}
 

@@ -25,7 +25,7 @@ use Rattle.table.specs.declared.Counts.{Counts}
 use Rattle.growth.specs.Weights.{weighed, weighedStep}
 use Rattle.growth.specs.declared.Weighed.{Weighed}
 use Rattle.growth.specs.declared.Weighed.the-variants.{Over}
-use Rattle.weigh.specs.Resolving.{restOf, stayOf, pairs, resolvedTo, Filed, Bounded, FirstUniversal}
+use Rattle.weigh.specs.Resolving.{restOf, stayOf, resolvedTo, Filed, Bounded, FirstUniversal}
 use Rattle.meaning.proofs.Basics.{by-cases, clash}
 use Rattle.meaning.proofs.Lists.{all-keep-le}
 use Rattle.meaning.proofs.Parts.{good-of, room-of}

@@ -3,15 +3,15 @@
 use Prim.Native.Nat.{ℕ, _+_, _≤_, _<_}
 use mathlib.Core.Path.{_≡_, sym, ap, _∙_}
 use mathlib.Core.Bool.{Bool, true, false, cond}
-use mathlib.Core.List.{List, []}
-use lib.ListN.{length, getD, take, drop}
-use lib.Seq.{getD-take, length-take-le}
+use mathlib.Core.List.{List}
+use lib.ListN.{length, take}
+use lib.Seq.{length-take-le}
 use lib.Dec.{ltb, leb}
 use borrow.Author.Tests.{lt-ltb, le-ltb, ltb-true, ltb-false}
 use native.Mathlib.Omega.{arith}
 use Rattle.meaning.specs.Lists.{allOf, anyOf, same}
 use Rattle.meaning.specs.Formula.{Formula, var, mentions}
-use Rattle.meaning.specs.Tidy.{dropped, kept, tidy, addTidied}
+use Rattle.meaning.specs.Tidy.{dropped, kept, addTidied}
 use Rattle.meaning.specs.WellFormed.{wellFormed, literals, weight, fits}
 use Rattle.rules.specs.Entry.{resolve}
 use Rattle.rules.specs.Step.{resultOf}
@@ -21,12 +21,11 @@ use Rattle.table.specs.declared.Pending.{Pending}
 use Rattle.growth.specs.Weights.{weighed, Summable}
 use Rattle.growth.specs.declared.Weighed.{Weighed}
 use Rattle.growth.specs.declared.Weighed.the-variants.{Over, Fitting, Wide}
-use Rattle.weigh.specs.Resolving.{restOf, rawResolvents, pairs, resolventAt, resolvedTo, becomes, cameBefore, tidiedIn, Bounded, CountedTo}
+use Rattle.weigh.specs.Resolving.{restOf, pairs, resolventAt, resolvedTo, tidiedIn, Bounded, CountedTo}
 use Rattle.meaning.proofs.Basics.{false-of, by-cases}
 use Rattle.meaning.proofs.Parts.{room-of, of-room}
-use Rattle.table.proofs.LoopLaws.{any-found, any-turn, any-end}
 use Rattle.weigh.proofs.ResolvBuild.{add-none, add-clauses, add-literals}
-use Rattle.weigh.proofs.ResolvResult.{resolved-next, resolved-grows, became-at, pair-free, result-is}
+use Rattle.weigh.proofs.ResolvResult.{resolved-next, resolved-grows, pair-free, result-is}
 
 -- The counts after one pair more -------------------------------------------------------------------------------------------
 module _ (φ : Formula) (w : wellFormed φ ≡ true) (a k : ℕ) (h : k < pairs φ a) (d : Counts) (is : d ≡ countsOf (resolvedTo φ a k) (d .second))

@@ -1,6 +1,5 @@
 -- By the limits, one after the other.
 -- Assumes nothing.
-use borrow.Author.Needs.{needs}
 use Rattle.growth.proofs.ExpandLoops.{fits-room, fits-clauses, fits-variables}
 use Rattle.growth.proofs.counts_fit.Statement.{statement}
 use Rattle.growth.proofs.counts_fit.Tie as tie

@@ -1,6 +1,5 @@
 -- The literal that is there, or the number past all.
 -- Assumes nothing.
-use native.Mathlib.Omega.{arith}
 use Rattle.merging.proofs.MergeTurns.{head-here, head-past}
 use borrow.Author.Needs.{needs}
 use Rattle.merging.proofs.head_at.Statement.{statement}

@@ -1,8 +1,6 @@
 -- A clause with a literal too many among its first gives nothing; for any other the resolvent is made.
 -- Assumes nothing.
 use mathlib.Core.Path.{sym, ap, _∙_}
-use mathlib.Core.List.{List}
-use Prim.Native.Nat.{ℕ}
 use Rattle.meaning.specs.Formula.{negated}
 use Rattle.permits.proofs.PlaceLaws.{good-entries}
 use Rattle.weigh.specs.Resolving.{fitsIn}

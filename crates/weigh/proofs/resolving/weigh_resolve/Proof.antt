@@ -1,6 +1,5 @@
 -- No existential, or what is left is too heavy already, or not permitted; else counted pair by pair.
 -- Assumes nothing.
-use mathlib.Core.Path.{sym, _∙_}
 use Rattle.permits.proofs.PlaceLaws.{entries-of}
 use Rattle.weigh.proofs.ResolvFile.{filed-of, file-of, study-ranks}
 use Rattle.weigh.proofs.ResolvWeigh.{weighed-whole, bounded-sums}
