@@ -1,8 +1,3 @@
 pub mod RecipeLaws
 pub mod FreeLaws
 pub mod FedLaws
-pub mod PrefixLaws
-pub mod BuildLaws
-pub mod RawLaws
-pub mod LeftLaws
-pub mod LeadLaws

@@ -1,4 +1,2 @@
-pub mod Raws
 pub mod Recipe
 pub mod Left
-pub mod Lead

@@ -1,15 +1,10 @@
-// A formula rebuilt by a recipe, from one lent table into the other: a prefix without a variable, the clauses that are taken, and what
-// becomes of their literals.
-mod leading;
-mod prefixes;
-mod rebuilding;
+// Recipes: which clauses of a formula are taken, and what becomes of their literals.
 mod recipes;
-mod turning;
 
-pub use prefixes::copy_prefix;
-pub use rebuilding::add_all;
-pub use rebuilding::rebuild;
 pub use recipes::feed;
+pub use recipes::is_left;
+pub use recipes::is_taken;
+pub use recipes::leaves_none;
 
 // Which clauses of the source are taken.
 pub enum Which {

@@ -24,7 +24,7 @@ use Rattle.meaning.proofs.Basics.{and-l, clash, false-of}
 use Rattle.meaning.proofs.Lists.{all-append}
 use Rattle.meaning.proofs.Parts.{room-of, of-room}
 use Rattle.table.proofs.HoldLaws.{count-variables}
-use Rattle.recipes.proofs.BuildLaws.{built-of, built-there, built-not, built-done, built-second, built-full}
+use Rattle.rebuilds.proofs.BuildLaws.{built-of, built-there, built-not, built-done, built-second, built-full}
 
 entries-none : (ψ : Formula) → withEntries ψ [] ≡ ψ
 unfolding withEntries

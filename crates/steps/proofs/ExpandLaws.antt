@@ -21,7 +21,7 @@ use Rattle.table.specs.declared.Pushed.{Pushed}
 use Rattle.table.specs.declared.Pushed.the-variants.{Done, Full}
 use Rattle.permits.specs.Places.{placeOf}
 use Rattle.steps.specs.Given.{Given}
-use Rattle.recipes.specs.Raws.{bare, withRaws}
+use Rattle.rebuilds.specs.Raws.{bare, withRaws}
 use Rattle.recipes.specs.Recipe.{rawsBy}
 use Rattle.recipes.specs.Left.{Shrunk}
 use Rattle.steps.specs.Copies.{existentials, withEntries, halvesBy, expandedBy}
@@ -36,8 +36,8 @@ use Rattle.rules.proofs.Fresh.{fresh-above}
 use Rattle.rules.proofs.Permitted.{ExpandSays, expand-says}
 use Rattle.table.proofs.HoldLaws.{prefix-is, count-variables}
 use Rattle.permits.proofs.PlaceLaws.{entries-of, large-out}
-use Rattle.recipes.proofs.BuildLaws.{raws-not, built-not, built-full, built-done, built-second, then-full, then-done}
-use Rattle.recipes.proofs.RawLaws.{shrunk-more}
+use Rattle.rebuilds.proofs.BuildLaws.{raws-not, built-not, built-full, built-done, built-second, then-full, then-done}
+use Rattle.rebuilds.proofs.RawLaws.{shrunk-more}
 use Rattle.recipes.proofs.FedLaws.{numbers-in}
 use Rattle.steps.proofs.ExpandPrefix.{split-of, good-new, inner-many, inner-few}
 use Rattle.steps.proofs.ExpandClauses.{expanded-are}

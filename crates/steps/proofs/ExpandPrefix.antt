@@ -22,7 +22,7 @@ use Rattle.rules.proofs.Fresh.{once, fresh-once, fresh-out, fresh-above}
 use Rattle.rules.proofs.Rename.{copies-mention}
 use Rattle.rules.proofs.Place.{place, while}
 use Rattle.permits.proofs.PlaceLaws.{place-right}
-use Rattle.recipes.proofs.PrefixLaws.{length-keep}
+use Rattle.rebuilds.proofs.PrefixLaws.{length-keep}
 
 -- It is good --------------------------------------------------------------------------------------------------------
 good-copies : (fs : List ℕ) → once fs ≡ true → allOf (λ v. ltb 0 v) fs ≡ true → goodPrefix (map plain fs) ≡ true

@@ -19,9 +19,9 @@ use Rattle.table.specs.declared.Counts.{Counts}
 use Rattle.table.proofs.LoopLaws.{any-at}
 use Rattle.table.proofs.SortLaws.{both-ascending}
 use Rattle.merging.specs.Merging.{joined}
-use Rattle.recipes.specs.Raws.{withRaws, Going}
+use Rattle.rebuilds.specs.Raws.{withRaws, Going}
 use Rattle.steps.specs.Pairs.{eachOf, ofPair, Phases, Idle, Alike}
-use Rattle.recipes.proofs.BuildLaws.{raws-append, raws-none, raws-one}
+use Rattle.rebuilds.proofs.BuildLaws.{raws-append, raws-none, raws-one}
 
 -- A raw clause with both phases of a variable ----------------------------------------------------------------------------
 raw-idle : (ψ : Formula) (raw : List ℕ) → bothPhases raw ≡ true → withRaw ψ raw ≡ ψ

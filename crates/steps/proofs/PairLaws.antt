@@ -19,7 +19,7 @@ use Rattle.table.specs.Answer.{Became, Built}
 use Rattle.table.specs.declared.Counts.{Counts}
 use Rattle.table.specs.declared.Pushed.{Pushed}
 use Rattle.table.specs.declared.Pushed.the-variants.{Done, Full}
-use Rattle.recipes.specs.Raws.{withRaws, Going}
+use Rattle.rebuilds.specs.Raws.{withRaws, Going}
 use Rattle.steps.specs.Pairs.{eachOf, ofPair, ofClause, Phases, Silent, Within}
 use Rattle.merging.specs.Merging.{joined, Ordered}
 use Rattle.merging.proofs.OrderedLaws.{ordered-at}
@@ -28,7 +28,7 @@ use Rattle.table.proofs.DecodeLaws.{decode-holds, holds-decoded}
 use Rattle.meaning.proofs.Basics.{by-cases}
 use Rattle.meaning.proofs.Literals.{plain-is, opp-odd, opp-opp, opp-plain}
 use Rattle.meaning.proofs.Prefix.{eqb-plain, eqb-negated}
-use Rattle.recipes.proofs.BuildLaws.{built-of, built-there, going-start, going-next, going-full, going-end}
+use Rattle.rebuilds.proofs.BuildLaws.{built-of, built-there, going-start, going-next, going-full, going-end}
 
 -- One pair --------------------------------------------------------------------------------------------------------
 pub pair-made : {l m : ℕ} → Phases l m → (x y : List ℕ) → has m y ≡ true → {ψ : Formula} {s : Bool} {r : Pushed} {t : List ℕ} → Became ψ (withRaw ψ (joined l (l + 1) x y)) s r t → Built (withRaws ψ (ofPair l m x y)) s r t

@@ -17,7 +17,7 @@ use Rattle.table.specs.Pending.{inRange}
 use Rattle.table.specs.declared.Counts.{Counts}
 use Rattle.table.specs.declared.Pushed.{Pushed}
 use Rattle.table.specs.declared.Pushed.the-variants.{Done, Full}
-use Rattle.recipes.specs.Raws.{withRaws}
+use Rattle.rebuilds.specs.Raws.{withRaws}
 use Rattle.recipes.specs.Recipe.{taken, rawsBy, remade}
 use Rattle.steps.specs.Pairs.{eachOf, ofClause, Phases}
 use Rattle.steps.specs.Given.{Given}
@@ -29,7 +29,7 @@ use native.Mathlib.Omega.{arith}
 use Rattle.meaning.proofs.Basics.{clash}
 use Rattle.meaning.proofs.Literals.{opp-negated}
 use Rattle.table.proofs.DecodeLaws.{decode-holds}
-use Rattle.recipes.proofs.BuildLaws.{raws-append, raws-not, built-not, built-full, built-second}
+use Rattle.rebuilds.proofs.BuildLaws.{raws-append, raws-not, built-not, built-full, built-second}
 use Rattle.recipes.proofs.FedLaws.{in-range, map-same, raws-keep}
 use Rattle.steps.proofs.KindLaws.{fed-same}
 use Rattle.recipes.proofs.FreeLaws.{free-is}

@@ -9,7 +9,7 @@ use Rattle.meaning.specs.Lists.{has}
 use Rattle.meaning.specs.Formula.{Formula, opposite}
 use Rattle.meaning.specs.WellFormed.{wellFormed}
 use Rattle.merging.specs.Merging.{joined}
-use Rattle.recipes.specs.Raws.{withRaws}
+use Rattle.rebuilds.specs.Raws.{withRaws}
 
 -- what comes of each clause, one after the other
 unfoldable pub eachOf : (List ℕ → List (List ℕ)) → List (List ℕ) → List (List ℕ)

@@ -12,7 +12,7 @@ use Rattle.table.specs.Table.{Holds, Held}
 use Rattle.table.proofs.HoldLaws.{bounds, held}
 use Rattle.recipes.specs.Recipe.{Ready, Readied}
 use Rattle.recipes.proofs.RecipeLaws.{ready-length}
-use Rattle.recipes.proofs.BuildLaws.{built-done}
+use Rattle.rebuilds.proofs.BuildLaws.{built-done}
 use Rattle.steps.proofs.CopyLaws.{Copying, copying-start, copying-next, copying-full, copying-end}
 use borrow.Author.Needs.{needs}
 use Rattle.steps.proofs.copies.push_copies.Statement.{statement}

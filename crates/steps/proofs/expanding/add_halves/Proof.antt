@@ -3,8 +3,8 @@
 use mathlib.Core.Path.{refl, _∙_}
 use Rattle.table.proofs.HoldLaws.{held}
 use Rattle.recipes.specs.Left.{about}
-use Rattle.recipes.proofs.BuildLaws.{built-done}
-use Rattle.recipes.proofs.RawLaws.{ready-after, shrunk-after}
+use Rattle.rebuilds.proofs.BuildLaws.{built-done}
+use Rattle.rebuilds.proofs.RawLaws.{ready-after, shrunk-after}
 use Rattle.steps.proofs.GivenLaws.{about-plain}
 use Rattle.steps.proofs.ExpandLaws.{halves-full, halves-done}
 use borrow.Author.Needs.{needs}

@@ -11,10 +11,10 @@ use Rattle.table.specs.Answer.{Built}
 use Rattle.table.proofs.HoldLaws.{bounds, held, count-variables}
 use Rattle.permits.specs.Places.{placeOf}
 use Rattle.steps.specs.Given.{Given}
-use Rattle.recipes.specs.Raws.{bare}
+use Rattle.rebuilds.specs.Raws.{bare}
 use Rattle.recipes.specs.Recipe.{Ready}
-use Rattle.recipes.proofs.BuildLaws.{built-done}
-use Rattle.recipes.proofs.RawLaws.{ranked-ready}
+use Rattle.rebuilds.proofs.BuildLaws.{built-done}
+use Rattle.rebuilds.proofs.RawLaws.{ranked-ready}
 use Rattle.steps.proofs.GivenLaws.{begun-held, begun-well, begun-ranks, given-ready}
 use Rattle.steps.proofs.ExpandLaws.{front, expand-shrunk, expand-few, expand-good, expand-full, expand-done, expand-never}
 use borrow.Author.Needs.{needs}

@@ -7,10 +7,10 @@ use lib.ListN.{length, drop}
 use Rattle.meaning.specs.Formula.{Formula}
 use Rattle.table.specs.Table.{Holds}
 use Rattle.table.proofs.HoldLaws.{bounds, held, count-clauses}
-use Rattle.recipes.specs.Raws.{Going}
+use Rattle.rebuilds.specs.Raws.{Going}
 use Rattle.steps.specs.Pairs.{eachOf, ofClause}
-use Rattle.recipes.proofs.BuildLaws.{going-start}
-use Rattle.recipes.proofs.RawLaws.{ready-as}
+use Rattle.rebuilds.proofs.BuildLaws.{going-start}
+use Rattle.rebuilds.proofs.RawLaws.{ready-as}
 use Rattle.steps.proofs.PairLaws.{each-next, each-full, each-end, within-ordered}
 use borrow.Author.Needs.{needs}
 use Rattle.steps.proofs.resolving.add_by_positive.Statement.{statement}

@@ -2,7 +2,7 @@
 -- Assumes nothing.
 use Rattle.table.proofs.PendingLaws.{pended}
 use Rattle.recipes.proofs.RecipeLaws.{ready-length}
-use Rattle.recipes.proofs.RawLaws.{ready-good, ready-ranks}
+use Rattle.rebuilds.proofs.RawLaws.{ready-good, ready-ranks}
 use borrow.Author.Needs.{needs}
 use Rattle.steps.proofs.resolving.add_pair.Statement.{statement}
 use Rattle.steps.proofs.resolving.add_pair.Tie as tie

@@ -10,9 +10,9 @@ use Rattle.meaning.specs.Lists.{has}
 use Rattle.meaning.specs.Formula.{Formula}
 use Rattle.table.specs.Table.{Holds}
 use Rattle.table.proofs.HoldLaws.{bounds, held, count-clauses}
-use Rattle.recipes.specs.Raws.{Going}
+use Rattle.rebuilds.specs.Raws.{Going}
 use Rattle.steps.specs.Pairs.{eachOf, ofPair}
-use Rattle.recipes.proofs.RawLaws.{ready-as}
+use Rattle.rebuilds.proofs.RawLaws.{ready-as}
 use Rattle.steps.proofs.PairLaws.{pair-made, pair-silent, within-few, within-ordered, each-start, each-next, each-full, each-stop}
 use Rattle.steps.proofs.IdleLaws.{going-alike, alike-as}
 use borrow.Author.Needs.{needs}

@@ -4,7 +4,7 @@ use mathlib.Core.Path.{refl, _∙_}
 use native.Mathlib.Omega.{arith}
 use Rattle.recipes.specs.Left.{about}
 use Rattle.table.proofs.HoldLaws.{held}
-use Rattle.recipes.proofs.BuildLaws.{built-done}
+use Rattle.rebuilds.proofs.BuildLaws.{built-done}
 use Rattle.steps.proofs.GivenLaws.{begun-held, begun-rebuild}
 use Rattle.steps.proofs.ResolveLaws.{phases-of, resolve-well, resolve-never, resolve-full, resolve-done}
 use borrow.Author.Needs.{needs}

@@ -1,0 +1,5 @@
+pub mod PrefixLaws
+pub mod BuildLaws
+pub mod RawLaws
+pub mod LeftLaws
+pub mod LeadLaws

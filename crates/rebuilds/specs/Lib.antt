@@ -1,0 +1,2 @@
+pub mod Raws
+pub mod Lead
