@@ -10,7 +10,7 @@ use lib.Seq.{drop-cons}
 use native.Mathlib.Numerals.{add-one}
 use Rattle.meaning.specs.Lists.{anyOf, has, without}
 use Rattle.meaning.specs.Formula.{Formula, opposite}
-use Rattle.meaning.specs.Tidy.{ascending, bothPhases, tidy, tidySorted, addTidied}
+use Rattle.meaning.specs.Tidy.{bothPhases, tidy, tidySorted, addTidied}
 use Rattle.meaning.proofs.Basics.{by-cases, or-il, or-ir, eqb-self, eqb-sym, eqb-ne}
 use Rattle.meaning.proofs.Lists.{any-append, any-has, has-keep}
 use Rattle.meaning.proofs.Literals.{opp-opp}

@@ -1,16 +1,15 @@
 -- Laws of the resolvents.
 -- Assumes nothing.
-use Prim.Native.Nat.{ℕ, _+_, _-_, _/_, _≤_, _<_}
-use mathlib.Core.Path.{_≡_, refl, sym, ap, _∙_, subst}
-use mathlib.Core.Bool.{Bool, true, false, _&&_, _||_, not, cond}
-use lib.Dec.{eqb}
+use Prim.Native.Nat.{ℕ, _+_, _-_, _≤_, _<_}
+use mathlib.Core.Path.{_≡_, refl, ap, _∙_, subst}
+use mathlib.Core.Bool.{Bool, true, false, cond}
 use mathlib.Core.List.{List, [], _∷_, _++_}
 use lib.ListN.{length, getD, drop, drop-of-length-le}
 use lib.Seq.{drop-cons}
 use native.Mathlib.Numerals.{add-one}
 use native.Mathlib.Omega.{arith}
-use Rattle.meaning.specs.Lists.{anyOf, keepIf, has, without}
-use Rattle.meaning.specs.Formula.{Formula, var, odd, opposite, plain, negated, isVar, mentions}
+use Rattle.meaning.specs.Lists.{keepIf, has, without}
+use Rattle.meaning.specs.Formula.{Formula, plain, negated}
 use Rattle.meaning.specs.Tidy.{buildOn}
 use Rattle.meaning.specs.WellFormed.{wellFormed}
 use Rattle.rules.specs.Eliminate.{withLit, resolventsOf, resolvents}
@@ -25,9 +24,6 @@ use Rattle.merging.specs.Merging.{joined, Ordered}
 use Rattle.merging.proofs.OrderedLaws.{ordered-at}
 use Rattle.table.proofs.HoldLaws.{count-clauses}
 use Rattle.table.proofs.DecodeLaws.{decode-holds, holds-decoded}
-use Rattle.meaning.proofs.Basics.{by-cases}
-use Rattle.meaning.proofs.Literals.{plain-is, opp-odd, opp-opp, opp-plain}
-use Rattle.meaning.proofs.Prefix.{eqb-plain, eqb-negated}
 use Rattle.rebuilds.proofs.BuildLaws.{built-of, built-there, going-start, going-next, going-full, going-end}
 
 -- One pair --------------------------------------------------------------------------------------------------------
