@@ -1,6 +1,7 @@
 //! The cases: groups of calls, each made from a seed, its group's name and its number, so that any one can be made again.
 
 pub mod bounds;
+pub mod crowded;
 pub mod entries;
 pub mod folding;
 pub mod formulas;

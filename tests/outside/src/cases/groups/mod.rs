@@ -22,7 +22,7 @@ use run::{
     run_allowance, run_exact, run_folding, run_full, run_growing, run_hard, run_interlock, run_long, run_random, run_regular,
     run_room, run_short, run_wide,
 };
-use step::{step_bad, step_bound, step_folding, step_near, step_permitted, step_wide, BOUNDS};
+use step::{step_bad, step_bound, step_crowded, step_folding, step_near, step_permitted, step_wide, BOUNDS};
 
 pub struct Group {
     pub name: &'static str,
@@ -58,6 +58,7 @@ pub fn groups() -> Vec<Group> {
         group("step: wider formulas", 150, step_wide),
         group("step: results at the limits", BOUNDS.len() * 3, step_bound),
         group("step: many equal clauses in the result", 60, step_folding),
+        group("step: a table crowded with one variable", 30, step_crowded),
         group("all but read: full tables", 120, full_tables),
         group("run: random formulas", 1500, run_random),
         group("run: harder formulas", 600, run_hard),

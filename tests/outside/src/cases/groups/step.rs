@@ -2,6 +2,7 @@
 
 use super::shared::{any_call, formula, step_entry, wide};
 use crate::cases::bounds::{self, Measure};
+use crate::cases::crowded::{clashing, unions};
 use crate::cases::entries;
 use crate::cases::folding::{expand_folding, resolve_folding};
 use crate::cases::lent::lend;
@@ -108,4 +109,26 @@ fn folding(rng: &mut Rng, number: usize) -> Formula {
         let pairs = if rng.coin() { rng.from(600, 800) } else { rng.from(1, 100) };
         expand_folding(rng, inner, pairs)
     }
+}
+
+/// Step 6 where nearly all of very many pairs come to nothing.
+pub fn step_crowded(rng: &mut Rng, number: usize) -> Call {
+    let f = match number % 3 {
+        0 => {
+            // Each free clause has resolvents with all clauses of the other phase: three of them can be too many for a table.
+            let (each, free) = (rng.from(100, 1000), rng.below(4));
+            clashing(rng, each, free)
+        }
+        1 => {
+            let vars = rng.from(6, 9) as u32;
+            unions(rng, vars, 0)
+        }
+        _ => {
+            let (vars, long) = (rng.from(2, 5) as u32, rng.from(60, 110));
+            unions(rng, vars, long)
+        }
+    };
+    let mut call = lend(rng, Operation::Step, &f);
+    call.a = entry(6, 100, 0).bits() as u64;
+    call
 }
