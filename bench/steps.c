@@ -4,6 +4,7 @@
  *
  *     examples/build bench/steps.c && examples/run target/c/steps
  */
+#define _POSIX_C_SOURCE 199309L /* clock_gettime */
 #include <stdio.h>
 #include <stdlib.h>
 #include <string.h>
