@@ -49,6 +49,15 @@ static int add(int n, const int *variables)
     return 1;
 }
 
+/* A clause of one literal, and of each of the variables 2 to n + 1 that is in the set. */
+static int add_subset(int literal, int n, int set)
+{
+    int clause[16] = {literal};
+    for (int v = 0; v < n; v++)
+        if (set >> v & 1) clause[v + 1] = 2 + v;
+    return add(n + 1, clause);
+}
+
 #define ADD(...) add(sizeof((int[]){__VA_ARGS__}) / sizeof(int), (int[]){__VA_ARGS__})
 
 /* The clauses in another order, always the same one. */
@@ -89,12 +98,7 @@ static void unions(int n, unsigned universal_from, unsigned universal_to)
     for (int phase = 0; phase < 2; phase++)
         for (int size = 0; size <= n; size++)
             for (int set = 0; set < 1 << n; set++)
-                if (__builtin_popcount((unsigned)set) == size) {
-                    int clause[16] = {phase ? -X : X};
-                    for (int v = 0; v < n; v++)
-                        if (set >> v & 1) clause[v + 1] = 2 + v;
-                    add(n + 1, clause);
-                }
+                if (__builtin_popcount((unsigned)set) == size) add_subset(phase ? -X : X, n, set);
 }
 
 /* The clauses differ by universals, which every resolvent loses: `outer` times `outer` different ones are left, or one. */
@@ -152,12 +156,7 @@ static void unit(void)
     begin(1023, 0, 0);
     ADD(600);
     for (int phase = 0; phase < 2; phase++)
-        for (int set = 0; set < 1 << 9; set++) {
-            int clause[16] = {phase ? -600 : 602};
-            for (int v = 0; v < 9; v++)
-                if (set >> v & 1) clause[v + 1] = 2 + v;
-            add(10, clause);
-        }
+        for (int set = 0; set < 1 << 9; set++) add_subset(phase ? -600 : 602, 9, set);
 }
 
 /* Two variables that are equal, and all subsets of nine variables with either: half of the clauses become equal. */
@@ -167,12 +166,7 @@ static void equal(void)
     ADD(600, -601);
     ADD(-600, 601);
     for (int phase = 0; phase < 2; phase++)
-        for (int set = 0; set < 1 << 9; set++) {
-            int clause[16] = {phase ? 600 : 601};
-            for (int v = 0; v < 9; v++)
-                if (set >> v & 1) clause[v + 1] = 2 + v;
-            add(10, clause);
-        }
+        for (int set = 0; set < 1 << 9; set++) add_subset(phase ? 600 : 601, 9, set);
 }
 
 /* The calls -------------------------------------------------------------------------------------------------- */
