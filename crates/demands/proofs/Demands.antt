@@ -13,14 +13,14 @@ use Rattle.reader.specs.Reading.{readNumber, Reads}
 use Rattle.reader.specs.declared.Reading.{Reading}
 use Rattle.writer.specs.Written.{writeNumber, Wrote}
 use Rattle.writer.specs.declared.Writing.{Writing}
-use Rattle.rimhlada.specs.Standing.{formulaIn}
-use Rattle.rimhlada.specs.Stepping.{Steps}
-use Rattle.rimhlada.specs.Running.{runNumber, Runs}
-use Rattle.rimhlada.specs.Replaying.{Replays}
+use Rattle.standing.specs.Standing.{formulaIn}
+use Rattle.replaying.specs.Stepping.{Steps}
+use Rattle.running.specs.Running.{runNumber, Runs}
+use Rattle.replaying.specs.Replaying.{Replays}
 use Rattle.demands.specs.Demands.{ReadDemands, WriteDemands, LiteralsDemands, NumberDemands, StepDemands, RunDemands, ReplayDemands, VerdictDemands, RetraceDemands, ReadBack}
-use Rattle.rimhlada.specs.declared.stepping.Stepped.{Stepped}
-use Rattle.rimhlada.specs.declared.runs.Ran.{Ran}
-use Rattle.rimhlada.specs.declared.replays.Replayed.{Replayed}
+use Rattle.replaying.specs.declared.stepping.Stepped.{Stepped}
+use Rattle.running.specs.declared.runs.Ran.{Ran}
+use Rattle.replaying.specs.declared.replays.Replayed.{Replayed}
 use Rattle.writer.proofs.RoundTrip.{wrote-once}
 use Rattle.demands.proofs.ReadDemands.{read-demands, reads-once}
 use Rattle.demands.proofs.WriteDemands.{numbered, write-demands}

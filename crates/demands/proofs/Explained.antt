@@ -15,10 +15,10 @@ use Rattle.reasons.proofs.Reasons.{reason-true, reason-is}
 use Rattle.table.specs.Check.{asked}
 use Rattle.table.specs.declared.Counts.{Counts}
 use Rattle.apply.specs.Applied.{Lends}
-use Rattle.rimhlada.specs.Standing.{formulaIn, firstFor, secondFor}
-use Rattle.rimhlada.specs.Explaining.{reasonNumber, reasonAnswer, answerThere, answerOn, looks, refuses, heardOf, heardFor, heardIn, answerFor, firstAfter, secondAfter, Explains}
-use Rattle.rimhlada.specs.declared.explains.Reasoned.{Reasoned}
-use Rattle.rimhlada.proofs.LentLaws.{lends}
+use Rattle.standing.specs.Standing.{formulaIn, firstFor, secondFor}
+use Rattle.explaining.specs.Explaining.{reasonNumber, reasonAnswer, answerThere, answerOn, looks, refuses, heardOf, heardFor, heardIn, answerFor, firstAfter, secondAfter, Explains}
+use Rattle.explaining.specs.declared.explains.Reasoned.{Reasoned}
+use Rattle.standing.proofs.LentLaws.{lends}
 
 -- Two outcomes that keep to the contract coincide ------------------------------------------------------------------
 pub record Same (r s : Reasoned) (a′ b′ a″ b″ : List ℕ) : Type 0 where

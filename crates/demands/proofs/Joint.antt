@@ -12,13 +12,13 @@ use Rattle.table.specs.Check.{asked}
 use Rattle.table.specs.declared.Counts.{Counts}
 use Rattle.reader.specs.Reading.{readNumber, Reads}
 use Rattle.reader.specs.declared.Reading.{Reading}
-use Rattle.rimhlada.specs.Standing.{formulaIn}
-use Rattle.rimhlada.specs.Stepping.{stepNumber}
-use Rattle.rimhlada.specs.Running.{runNumber, Runs}
-use Rattle.rimhlada.specs.Replaying.{stopAnswer, replayIn, Replays}
+use Rattle.standing.specs.Standing.{formulaIn}
+use Rattle.replaying.specs.Stepping.{stepNumber}
+use Rattle.running.specs.Running.{runNumber, Runs}
+use Rattle.replaying.specs.Replaying.{stopAnswer, replayIn, Replays}
 use Rattle.demands.specs.Demands.{TextRead, RunDone, RunDemands, VerdictDemands, RetraceDemands}
-use Rattle.rimhlada.specs.declared.runs.Ran.{Ran}
-use Rattle.rimhlada.specs.declared.replays.Replayed.{Replayed}
+use Rattle.running.specs.declared.runs.Ran.{Ran}
+use Rattle.replaying.specs.declared.replays.Replayed.{Replayed}
 use Rattle.demands.proofs.ReadDemands.{read-demands}
 use Rattle.demands.proofs.RunDemands.{run-demands}
 use Rattle.demands.proofs.ReplayDemands.{number-is, applied-is, final-is}

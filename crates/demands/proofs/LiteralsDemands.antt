@@ -9,7 +9,7 @@ use Rattle.table.specs.declared.Asked.the-variants as said
 use Rattle.table.specs.Check.{named, rightLengths, judged, goodTable, asked, askedNumber, literalsPart}
 use Rattle.table.specs.declared.Counts.{Counts}
 use Rattle.table.specs.declared.Asked.{Asked}
-use Rattle.rimhlada.specs.Standing.{formulaIn}
+use Rattle.standing.specs.Standing.{formulaIn}
 use Rattle.demands.specs.Demands.{LiteralsDemands, NumberDemands}
 use Rattle.meaning.proofs.Basics.{by-cases}
 use Rattle.table.proofs.HoldLaws.{literals-are}

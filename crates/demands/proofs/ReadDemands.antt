@@ -18,13 +18,13 @@ use Rattle.table.specs.Table.{emptyFormula, countsOf}
 use Rattle.table.specs.Check.{rightLengths}
 use Rattle.reader.specs.Reading.{readNumber, answerFor, refusal, readingFor, lengthsRight, readingOf, tableFor, firstAfter, secondAfter, Reads}
 use Rattle.reader.specs.declared.Reading.{Reading}
-use Rattle.rimhlada.specs.Standing.{formulaIn, firstFor, secondFor}
+use Rattle.standing.specs.Standing.{formulaIn, firstFor, secondFor}
 use Rattle.demands.specs.Demands.{zeros, noCounts, LeftAs, TextRead, ReadDemands}
 use Rattle.meaning.proofs.Basics.{and-r}
 use Rattle.table.proofs.TableLaws.{table-empty}
 use Rattle.reader.proofs.NumberLaws.{Known, fault-known}
 use Rattle.demands.proofs.Promises.{ReadRight, reading}
-use Rattle.rimhlada.proofs.LentLaws.{stands-formula, stands-given}
+use Rattle.standing.proofs.LentLaws.{stands-formula, stands-given}
 
 module _ (text a b : List ℕ) (r : Reading) (a′ b′ : List ℕ) (w : Reads text a b r a′ b′) where
   pub reads-once : (q : Reading) (x y : List ℕ) → Reads text a b q x y → (r ≡ q) × (a′ ≡ x) × (b′ ≡ y)

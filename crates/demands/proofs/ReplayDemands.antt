@@ -17,14 +17,14 @@ use Rattle.table.specs.Table.{countsOf}
 use Rattle.table.specs.Check.{asked, askedNumber}
 use Rattle.table.specs.declared.Counts.{Counts}
 use Rattle.table.specs.declared.Asked.{Asked}
-use Rattle.rimhlada.specs.Standing.{formulaIn, firstFor, secondFor, firstLeft, secondLeft}
-use Rattle.rimhlada.specs.Stepping.{stepNumber}
-use Rattle.rimhlada.specs.Replaying.{stopAnswer, replayedFor, replayIn, sideReplayed, Replays}
+use Rattle.standing.specs.Standing.{formulaIn, firstFor, secondFor, firstLeft, secondLeft}
+use Rattle.replaying.specs.Stepping.{stepNumber}
+use Rattle.replaying.specs.Replaying.{stopAnswer, replayedFor, replayIn, sideReplayed, Replays}
 use Rattle.demands.specs.Demands.{Left, LeftAs, FirstRefused, ReplaySays, ReplayDemands}
-use Rattle.rimhlada.specs.declared.replays.Replayed.{Replayed}
+use Rattle.replaying.specs.declared.replays.Replayed.{Replayed}
 use Rattle.rules.proofs.Kept.{Kept, kept-none, kept-true}
 use Rattle.rules.proofs.Replays.{replay-beginning, replay-kept}
-use Rattle.rimhlada.proofs.LentLaws.{lends, stands-formula, stands-given}
+use Rattle.standing.proofs.LentLaws.{lends, stands-formula, stands-given}
 use Rattle.demands.proofs.StepDemands.{refusal-number, refusal-large}
 use Rattle.demands.proofs.ReplayStops.{stops-at, all-applied}
 

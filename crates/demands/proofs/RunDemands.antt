@@ -10,7 +10,7 @@ use lib.Dec.{leb, eqb}
 use lib.ListN.{length, take, drop}
 use lib.Seq.{take-at, drop-at}
 use Rattle.table.specs.declared.Asked.the-variants as said
-use Rattle.rimhlada.specs.declared.runs.RunAnswer.the-variants as says
+use Rattle.running.specs.declared.runs.RunAnswer.the-variants as says
 use Rattle.rules.specs.Run as rules
 use Rattle.meaning.specs.Formula.{Formula}
 use Rattle.meaning.specs.Game.{isTrue}
@@ -22,17 +22,17 @@ use Rattle.table.specs.Check.{asked}
 use Rattle.table.specs.declared.Counts.{Counts}
 use Rattle.table.specs.declared.Asked.{Asked}
 use Rattle.course.specs.Course.{sideFrom}
-use Rattle.rimhlada.specs.Standing.{formulaIn, firstFor, secondFor}
-use Rattle.rimhlada.specs.Running.{runNumber, outcomeAnswer, runs, refuses, heardOf, heardFor, ranFor, firstRan, secondRan, logRan, heardIn, runIn, Runs}
+use Rattle.standing.specs.Standing.{formulaIn, firstFor, secondFor}
+use Rattle.running.specs.Running.{runNumber, outcomeAnswer, runs, refuses, heardOf, heardFor, ranFor, firstRan, secondRan, logRan, heardIn, runIn, Runs}
 use Rattle.demands.specs.Demands.{RunSays, RunDone, refusedNumber, RunDemands}
-use Rattle.rimhlada.specs.declared.runs.RunAnswer.{RunAnswer}
-use Rattle.rimhlada.specs.declared.runs.Ran.{Ran}
+use Rattle.running.specs.declared.runs.RunAnswer.{RunAnswer}
+use Rattle.running.specs.declared.runs.Ran.{Ran}
 use Rattle.meaning.proofs.Basics.{false-of}
 use Rattle.rules.proofs.Kept.{kept-true}
 use Rattle.rules.proofs.RunRight.{RunRight}
 use Rattle.course.proofs.RunLaws.{log-length}
 use Rattle.demands.proofs.Promises.{running}
-use Rattle.rimhlada.proofs.LentLaws.{lends, stands-formula, stands-given}
+use Rattle.standing.proofs.LentLaws.{lends, stands-formula, stands-given}
 
 -- the number of an outcome's answer is the outcome's
 number-is : (o : rules.Outcome) → runNumber (outcomeAnswer o) ≡ outcomeNumber o

@@ -15,12 +15,12 @@ use Rattle.table.specs.Check.{named, asked, askedNumber}
 use Rattle.table.specs.declared.Counts.{Counts}
 use Rattle.table.specs.declared.Asked.{Asked}
 use Rattle.apply.specs.Applied.{formulaAfter, sideAfter}
-use Rattle.rimhlada.specs.Standing.{formulaIn, firstFor, secondFor, firstLeft, secondLeft}
-use Rattle.rimhlada.specs.Stepping.{stepNumber, refusalAnswer, stepAnswer, answerFor, stepCounts, countsFor, stepIn, formulaLeft, sideLeft, answerOf, countsGiven, firstAfter, secondAfter, Steps}
+use Rattle.standing.specs.Standing.{formulaIn, firstFor, secondFor, firstLeft, secondLeft}
+use Rattle.replaying.specs.Stepping.{stepNumber, refusalAnswer, stepAnswer, answerFor, stepCounts, countsFor, stepIn, formulaLeft, sideLeft, answerOf, countsGiven, firstAfter, secondAfter, Steps}
 use Rattle.demands.specs.Demands.{Left, LeftAs, StepDemands}
-use Rattle.rimhlada.specs.declared.stepping.Stepped.{Stepped}
+use Rattle.replaying.specs.declared.stepping.Stepped.{Stepped}
 use Rattle.demands.proofs.Promises.{StepRight, stepping}
-use Rattle.rimhlada.proofs.LentLaws.{lends, stands-named, stands-formula, stands-given}
+use Rattle.standing.proofs.LentLaws.{lends, stands-named, stands-formula, stands-given}
 
 -- the number of a step's own refusal
 pub refusal-number : (y : Refusal) → stepNumber (refusalAnswer y) ≡ refusalNumber y

@@ -12,10 +12,10 @@ use Rattle.table.specs.declared.Counts.{Counts}
 use Rattle.writer.specs.Written.{writeNumber, bytesFor, outputFor, writingFor, textOf, answerOf, writingOf, outputOf, Wrote}
 use Rattle.writer.specs.declared.WriteAnswer.{WriteAnswer}
 use Rattle.writer.specs.declared.Writing.{Writing}
-use Rattle.rimhlada.specs.Standing.{formulaIn}
+use Rattle.standing.specs.Standing.{formulaIn}
 use Rattle.demands.specs.Demands.{WriteDemands}
 use Rattle.writer.proofs.RoundTrip.{given-good, text-short, wrote-answer, wrote-reads}
-use Rattle.rimhlada.proofs.LentLaws.{right}
+use Rattle.standing.proofs.LentLaws.{right}
 
 -- only Written has the number 0
 pub numbered : (x : WriteAnswer) → writeNumber x ≡ 0 → x ≡ says.Written

@@ -25,12 +25,12 @@ use Rattle.reader.specs.Reading.{readNumber, lengthsRight}
 use Rattle.reader.specs.declared.Reading.{Reading}
 use Rattle.writer.specs.Written.{writeNumber, textOf, numberOf}
 use Rattle.writer.specs.declared.Writing.{Writing}
-use Rattle.rimhlada.specs.Standing.{formulaIn}
-use Rattle.rimhlada.specs.Stepping.{stepNumber}
-use Rattle.rimhlada.specs.Running.{runNumber, runIn}
-use Rattle.rimhlada.specs.declared.stepping.Stepped.{Stepped}
-use Rattle.rimhlada.specs.declared.runs.Ran.{Ran}
-use Rattle.rimhlada.specs.declared.replays.Replayed.{Replayed}
+use Rattle.standing.specs.Standing.{formulaIn}
+use Rattle.replaying.specs.Stepping.{stepNumber}
+use Rattle.running.specs.Running.{runNumber, runIn}
+use Rattle.replaying.specs.declared.stepping.Stepped.{Stepped}
+use Rattle.running.specs.declared.runs.Ran.{Ran}
+use Rattle.replaying.specs.declared.replays.Replayed.{Replayed}
 
 -- Common ------------------------------------------------------------------------------------------------------
 abbrev pub zeros : List ℕ

@@ -9,16 +9,16 @@ use Rattle.reader.specs.Reading.{Reads, readNumber}
 use Rattle.reader.specs.declared.Reading.{Reading}
 use Rattle.writer.specs.Written.{Wrote, writeNumber}
 use Rattle.writer.specs.declared.Writing.{Writing}
-use Rattle.rimhlada.specs.Stepping.{Steps, stepNumber}
-use Rattle.rimhlada.specs.Running.{Runs, runNumber}
-use Rattle.rimhlada.specs.Replaying.{Replays}
-use Rattle.rimhlada.specs.Explaining.{Explains, reasonNumber}
-use Rattle.rimhlada.specs.declared.stepping.Stepped.{Stepped}
-use Rattle.rimhlada.specs.declared.runs.Ran.{Ran}
-use Rattle.rimhlada.specs.declared.replays.Replayed.{Replayed}
-use Rattle.rimhlada.specs.declared.explains.Reasoned.{Reasoned}
+use Rattle.replaying.specs.Stepping.{Steps, stepNumber}
+use Rattle.running.specs.Running.{Runs, runNumber}
+use Rattle.replaying.specs.Replaying.{Replays}
+use Rattle.explaining.specs.Explaining.{Explains, reasonNumber}
+use Rattle.replaying.specs.declared.stepping.Stepped.{Stepped}
+use Rattle.running.specs.declared.runs.Ran.{Ran}
+use Rattle.replaying.specs.declared.replays.Replayed.{Replayed}
+use Rattle.explaining.specs.declared.explains.Reasoned.{Reasoned}
 use Rattle.exports.specs.Records.{sideKnown, countsIn, recordOf, sideNumber, asLent}
-use Rattle.rimhlada.specs.Values.{reasonKind, reasonValues, noValues, triple}
+use Rattle.explaining.specs.Values.{reasonKind, reasonValues, noValues, triple}
 use Rattle.exports.specs.Calls.{Said, Refused, RefusedWith, Write, WriteCall, Step, StepCall, Run, RunCall, Replay, ReplayCall, Reason, NoReason, ReasonCall}
 use Rattle.exports.proofs.RecordLaws.{side-known, side-unknown}
 

@@ -5,7 +5,7 @@ use Prim.Native.Nat.{ℕ}
 use mathlib.Core.Path.{_≡_, refl, sym, ap, _∙_}
 use mathlib.Core.List.{List}
 use Rattle.table.specs.declared.Counts.{Counts}
-use Rattle.rimhlada.specs.Stepping.{stepNumber}
+use Rattle.replaying.specs.Stepping.{stepNumber}
 use Rattle.meaning.proofs.Basics.{by-cases}
 use Rattle.exports.specs.Records.{sideKnown, recordOf}
 use Rattle.exports.specs.Calls.{Refused, RefusedWith, ReadCall, Write, WriteCall, Step, StepCall, Run, RunCall, Replay, ReplayCall, Reason, NoReason, ReasonCall}
