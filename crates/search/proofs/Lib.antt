@@ -4,8 +4,6 @@ pub mod FirstLaws
 pub mod CandidateLaws
 pub mod LoneLaws
 pub mod AmongLaws
-pub mod MergeLaws
-pub mod WalkLaws
 pub mod LowestLaws
 pub mod SignedLaws
 pub mod StrengthenLaws

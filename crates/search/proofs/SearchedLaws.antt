@@ -19,7 +19,8 @@ use Rattle.rules.specs.Step.{permitted}
 use Rattle.rules.specs.Choice.{none, orElse, firstPair, firsts, seconds, costly, candidate}
 use Rattle.table.specs.Table.{Holds}
 use Rattle.table.specs.declared.Counts.{Counts}
-use Rattle.search.specs.Candidates.{foundAs, firstFor, someStrengthens, Lowest}
+use Rattle.walks.specs.Walks.{someStrengthens}
+use Rattle.search.specs.Candidates.{foundAs, firstFor, Lowest}
 use Rattle.search.specs.Searched.{SearchedTo, Alone}
 use Rattle.search.specs.declared.Found.{Found}
 use Rattle.search.specs.declared.Found.the-variants.{Nothing}

@@ -19,7 +19,8 @@ use Rattle.table.specs.Table.{Holds}
 use Rattle.table.specs.declared.Counts.{Counts}
 use Rattle.index.specs.Index.{clausesWith}
 use Rattle.index.specs.Signs.{variablesIn}
-use Rattle.search.specs.Candidates.{foundAs, firstFor, someStrengthens, lowest, Lowest}
+use Rattle.walks.specs.Walks.{someStrengthens}
+use Rattle.search.specs.Candidates.{foundAs, firstFor, lowest, Lowest}
 use Rattle.search.specs.declared.Found.the-variants.{Nothing, Pair}
 use Rattle.meaning.proofs.Basics.{by-cases, false-of, clash, or-il, or-ir, or-elim, eqb-true}
 use Rattle.meaning.proofs.Lists.{any-append, any-witness, all-has}
@@ -29,7 +30,7 @@ use Rattle.rules.proofs.Permitted.{strengthen-says}
 use Rattle.table.proofs.HoldLaws.{count-clauses}
 use Rattle.permits.proofs.ClauseLaws.{absent, present}
 use Rattle.search.proofs.StudyLaws.{clause-rises}
-use Rattle.search.proofs.MergeLaws.{strong-longer}
+use Rattle.walks.proofs.MergeLaws.{strong-longer}
 use Rattle.search.proofs.SignedLaws.{mentioned, strengthen-variables}
 use Rattle.search.proofs.AmongLaws.{with-has, lists-none}
 use Rattle.search.proofs.LowestLaws.{lowest-all, lowest-none, lowest-nothing, lowest-found}

@@ -6,10 +6,8 @@ use mathlib.Core.Bool.{Bool, true, false, _&&_, cond}
 use mathlib.Core.List.{List, [], foldl}
 use lib.Dec.{ltb}
 use lib.ListN.{getD}
-use Rattle.meaning.specs.Lists.{anyOf}
 use Rattle.meaning.specs.Formula.{Formula}
 use Rattle.rules.specs.Entry.{Kind}
-use Rattle.rules.specs.Simplify.{strengthens}
 use Rattle.rules.specs.Step.{permitted}
 use Rattle.rules.specs.Choice as rules
 use Rattle.rules.specs.Choice.{none, found, firstB, seconds}
@@ -33,10 +31,6 @@ pub record Signed (φ : Formula) (signs : List ℕ) (sign : ℕ) (x : List ℕ) 
   pub all : Signs (φ .clauses) signs
 
 -- Kind 4, by the lowest b ---------------------------------------------------------------------------------------
--- some literal of the clause x strengthens the clause y
-unfoldable pub someStrengthens : List ℕ → List ℕ → List ℕ → Bool
-someStrengthens p x y = anyOf (strengthens p x y) x
-
 -- the lower of the best so far and of b, where b passes the test
 unfoldable pub lowerIf : (ℕ → Bool) → ℕ → ℕ → ℕ
 lowerIf t best b = cond (ltb b best && t b) b best

@@ -8,7 +8,7 @@ use mathlib.Core.List.{List}
 use lib.ListN.{take}
 use Rattle.meaning.specs.Lists.{anyOf, partOf, same}
 use Rattle.meaning.specs.Formula.{Formula}
-use Rattle.search.specs.Candidates.{someStrengthens}
+use Rattle.walks.specs.Walks.{someStrengthens}
 
 -- none of the clauses is a part of another, and none strengthens one. p is the prefix
 pub record Searched (p : List ℕ) (cs : List (List ℕ)) : Type 0 where

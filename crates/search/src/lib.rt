@@ -1,6 +1,5 @@
 // The candidates of kinds 1 to 5 in a run, found by the occurrence index.
 mod equalities;
-mod merges;
 mod pures;
 mod rarity;
 mod strengthening;

@@ -16,7 +16,6 @@ ghost use Rattle.index.specs.Study.{Studied, Study};
 ghost use Rattle.search.specs.Candidates.{foundAs, Signed, lowerIf, lowest, Lowest};
 ghost use Rattle.search.specs.Searched.{SearchedTo, Alone};
 use crate::Found;
-use crate::merges::strengthens_part;
 use crate::rarity::rarest_variable;
 use index::clauses_of;
 use index::may_be_part;
@@ -24,6 +23,7 @@ use index::signature;
 use index::signatures;
 use table::Counts;
 use table::clause_at;
+use walks::strengthens_part;
 
 // Whether there is a clause b, and some literal of x, which is clause a, strengthens it.
 fn is_strengthened(

@@ -16,7 +16,6 @@ ghost use Rattle.index.specs.Index.{Indexes, Indexed};
 ghost use Rattle.search.specs.Candidates.{foundAs, firstFor, Signed};
 ghost use Rattle.search.specs.Searched.{SearchedTo, Alone};
 use crate::Found;
-use crate::merges::is_part;
 use crate::rarity::rarest;
 use index::clauses_with;
 use index::may_be_part;
@@ -24,6 +23,7 @@ use index::signature;
 use index::signatures;
 use table::Counts;
 use table::clause_at;
+use walks::is_part;
 
 // Whether clause b is another one than a, and has all literals of x, which is clause a.
 fn is_subsumed(

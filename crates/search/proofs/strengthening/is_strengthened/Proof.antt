@@ -8,7 +8,7 @@ use borrow.Author.Needs.{needs}
 use Rattle.search.proofs.strengthening.is_strengthened.Statement.{statement}
 use Rattle.search.proofs.strengthening.is_strengthened.Tie as tie
 use Rattle.index.proofs.may_be_part.Reads as may-be-part-reads
-use Rattle.search.proofs.merges.strengthens_part.Reads as strengthens-part-reads
+use Rattle.walks.proofs.strengthens_part.Reads as strengthens-part-reads
 use Rattle.table.proofs.clause_at.Reads as clause-at-reads
 
 may-be-part-requires : tie.Need-may-be-part-requires

@@ -6,7 +6,7 @@ use Rattle.search.proofs.StrengthenLaws.{strong-no-a, strong-itself, st
 use borrow.Author.Needs.{needs}
 use Rattle.search.proofs.strengthening.strengthens.Statement.{statement}
 use Rattle.search.proofs.strengthening.strengthens.Tie as tie
-use Rattle.search.proofs.merges.strengthens_part.Reads as strengthens-part-reads
+use Rattle.walks.proofs.strengthens_part.Reads as strengthens-part-reads
 use Rattle.table.proofs.clause_at.Reads as clause-at-reads
 
 returns : tie.Need-returns

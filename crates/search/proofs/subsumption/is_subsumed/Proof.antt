@@ -3,13 +3,13 @@
 use mathlib.Core.Path.{sym}
 use Rattle.permits.proofs.ClauseLaws.{subsume-no-b, subsume-same, subsume-is}
 use Rattle.search.proofs.StudyLaws.{clause-rises}
-use Rattle.search.proofs.MergeLaws.{part-longer}
+use Rattle.walks.proofs.MergeLaws.{part-longer}
 use Rattle.search.proofs.SignedLaws.{subsume-needs, unsigned}
 use borrow.Author.Needs.{needs}
 use Rattle.search.proofs.subsumption.is_subsumed.Statement.{statement}
 use Rattle.search.proofs.subsumption.is_subsumed.Tie as tie
 use Rattle.index.proofs.may_be_part.Reads as may-be-part-reads
-use Rattle.search.proofs.merges.is_part.Reads as is-part-reads
+use Rattle.walks.proofs.is_part.Reads as is-part-reads
 use Rattle.table.proofs.clause_at.Reads as clause-at-reads
 
 may-be-part-requires : tie.Need-may-be-part-requires

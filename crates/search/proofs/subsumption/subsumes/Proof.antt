@@ -3,11 +3,11 @@
 use mathlib.Core.Path.{sym}
 use Rattle.permits.proofs.ClauseLaws.{subsume-no-a, subsume-same, subsume-is}
 use Rattle.search.proofs.StudyLaws.{clause-rises}
-use Rattle.search.proofs.MergeLaws.{part-longer}
+use Rattle.walks.proofs.MergeLaws.{part-longer}
 use borrow.Author.Needs.{needs}
 use Rattle.search.proofs.subsumption.subsumes.Statement.{statement}
 use Rattle.search.proofs.subsumption.subsumes.Tie as tie
-use Rattle.search.proofs.merges.is_part.Reads as is-part-reads
+use Rattle.walks.proofs.is_part.Reads as is-part-reads
 use Rattle.table.proofs.clause_at.Reads as clause-at-reads
 
 returns : tie.Need-returns

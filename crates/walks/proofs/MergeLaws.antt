@@ -12,7 +12,7 @@ use Rattle.meaning.specs.Lists.{anyOf, allOf, keepIf, has, partOf, without}
 use Rattle.meaning.specs.Formula.{var, odd, opposite, existential}
 use Rattle.meaning.specs.WellFormed.{ascends}
 use Rattle.rules.specs.Simplify.{strengthens}
-use Rattle.search.specs.Candidates.{someStrengthens}
+use Rattle.walks.specs.Walks.{someStrengthens}
 use Rattle.meaning.proofs.Basics.{by-cases, false-of, and-l, and-r, and-i, eqb-self, eqb-ne, eqb-true, eqb-false, or-false}
 use Rattle.meaning.proofs.Lists.{all-le, all-agree, any-agree, all-has, all-keep-le, keep-all}
 use Rattle.meaning.proofs.Literals.{var-opp, odd-is, even-is, opp-odd, opp-even}

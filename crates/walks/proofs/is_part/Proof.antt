@@ -7,10 +7,10 @@ use native.Mathlib.Omega.{arith}
 use lib.ListN.{length}
 use Rattle.meaning.specs.Lists.{partOf}
 use Rattle.meaning.specs.WellFormed.{ascends}
-use Rattle.search.proofs.WalkLaws.{Ahead, ahead-start, part-end, part-out, part-both, part-one, part-fails}
+use Rattle.walks.proofs.WalkLaws.{Ahead, ahead-start, part-end, part-out, part-both, part-one, part-fails}
 use borrow.Author.Needs.{needs}
-use Rattle.search.proofs.merges.is_part.Statement.{statement}
-use Rattle.search.proofs.merges.is_part.Tie as tie
+use Rattle.walks.proofs.is_part.Statement.{statement}
+use Rattle.walks.proofs.is_part.Tie as tie
 
 abbrev Inv-loop : tie.InvT-loop
 Inv-loop x y i₀ j₀ i j = (i ≤ length x) × (j ≤ length y) × (ascends x ≡ true → ascends y ≡ true → Ahead partOf x y i j)

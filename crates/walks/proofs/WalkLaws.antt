@@ -12,8 +12,8 @@ use Rattle.meaning.specs.Lists.{anyOf, allOf, partOf}
 use Rattle.meaning.specs.Formula.{var, existential}
 use Rattle.meaning.specs.WellFormed.{ascends}
 use Rattle.table.proofs.ListLaws.{tail-mid}
-use Rattle.search.specs.Candidates.{someStrengthens}
-use Rattle.search.proofs.MergeLaws.{ascends-tail, part-same, part-past, part-not, part-none, strong-same, strong-past, strong-not, strong-here, strong-end}
+use Rattle.walks.specs.Walks.{someStrengthens}
+use Rattle.walks.proofs.MergeLaws.{ascends-tail, part-same, part-past, part-not, part-none, strong-same, strong-past, strong-not, strong-here, strong-end}
 
 -- the test f of x and y is that of what is left of them, and both ascend
 pub record Ahead (f : List ℕ → List ℕ → Bool) (x y : List ℕ) (i j : ℕ) : Type 0 where

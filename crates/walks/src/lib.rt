@@ -1,4 +1,5 @@
-// Two ascending clauses, walked together: at each turn the lower of the two literals ahead is passed.
+// Two ascending clauses, walked together: at each turn the lower of the two literals ahead is passed. Whether one is a part of the other,
+// and whether one strengthens the other, is found in one walk.
 ghost use mathlib.Core.Path.{_≡_};
 ghost use Prim.Native.Nat.{ℕ};
 ghost use mathlib.Core.Bool.{true};
@@ -7,7 +8,7 @@ ghost use lib.ListN.{length};
 ghost use Rattle.meaning.specs.Lists.{partOf};
 ghost use Rattle.meaning.specs.WellFormed.{ascends};
 ghost use Rattle.table.specs.Ranks.{ranksOf, goodEntries};
-ghost use Rattle.search.specs.Candidates.{someStrengthens};
+ghost use Rattle.walks.specs.Walks.{someStrengthens};
 use permits::is_existential;
 
 // Whether every literal of x is in y.

@@ -7,13 +7,13 @@ use mathlib.Core.List.{List}
 use native.Mathlib.Omega.{arith}
 use lib.ListN.{length}
 use Rattle.meaning.specs.WellFormed.{ascends}
-use Rattle.search.specs.Candidates.{someStrengthens}
-use Rattle.search.proofs.WalkLaws.{Ahead, ahead-start, strong-end-x, strong-out, strong-both, strong-one, strong-fails, strong-universal, strong-rest}
+use Rattle.walks.specs.Walks.{someStrengthens}
+use Rattle.walks.proofs.WalkLaws.{Ahead, ahead-start, strong-end-x, strong-out, strong-both, strong-one, strong-fails, strong-universal, strong-rest}
 use borrow.Author.Needs.{needs}
-use Rattle.search.proofs.merges.strengthens_part.Statement.{statement}
-use Rattle.search.proofs.merges.strengthens_part.Tie as tie
+use Rattle.walks.proofs.strengthens_part.Statement.{statement}
+use Rattle.walks.proofs.strengthens_part.Tie as tie
 use Rattle.permits.proofs.is_existential.Reads as is-existential-reads
-use Rattle.search.proofs.merges.is_part.Reads as is-part-reads
+use Rattle.walks.proofs.is_part.Reads as is-part-reads
 
 abbrev Inv-loop : tie.InvT-loop
 Inv-loop ranks x y i₀ j₀ i j =
