@@ -1,4 +1,3 @@
-pub mod TrackLaws
 pub mod SeenLaws
 pub mod TurnLaws
 pub mod ReadLaws

@@ -24,7 +24,7 @@ use Rattle.qdimacs.specs.declared.Phase.the-variants.{AtP, AtCnf, AtM, AtC, Lin
 use Rattle.qdimacs.specs.declared.Move.{Move}
 use Rattle.qdimacs.specs.declared.Move.the-variants.{Fault, Go, SetM, SetC, Entry, Literal, Close}
 use Rattle.reader.specs.Reading.{readNumber, answerFor}
-use Rattle.reader.proofs.TrackLaws.{closing}
+use Rattle.tracks.proofs.TrackLaws.{closing}
 
 -- k is the number of an answer that refuses a text for what stands in it: 3 or more
 abbrev pub Known : ℕ → Type 0

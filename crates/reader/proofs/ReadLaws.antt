@@ -16,7 +16,7 @@ use Rattle.table.specs.Table.{emptyFormula, tableOf, countsOf}
 use Rattle.table.specs.Check.{rightLengths}
 use Rattle.table.specs.Pending.{emptyPending}
 use Rattle.table.specs.declared.Counts.{Counts}
-use Rattle.reader.specs.Tracks.{soFar, fresh, Tracks}
+use Rattle.tracks.specs.Tracks.{soFar, fresh, Tracks}
 use Rattle.reader.specs.Reading.{refusal, readingFor, lengthsRight, readingOf, tableFor, firstAfter, secondAfter, Reads, outcomeOf, Left, Filled}
 use Rattle.reader.specs.declared.ReadAnswer.the-variants.{Read}
 use Rattle.reader.specs.declared.Reading.{Reading}

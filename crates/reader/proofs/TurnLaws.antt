@@ -26,11 +26,11 @@ use Rattle.scan.specs.Phases.{rightPhase}
 use Rattle.scan.specs.declared.bytes.Next.the-variants.{Run, End}
 use Rattle.table.specs.Table.{tableOf, countsOf}
 use Rattle.table.specs.Ranks.{ranksOf}
-use Rattle.reader.specs.Tracks.{soFar, fresh, Tracks, Allowed, Ready, entered, Steps}
+use Rattle.tracks.specs.Tracks.{soFar, fresh, Tracks, Allowed, Ready, entered, Steps}
 use Rattle.reader.specs.Reading.{outcomeOf, concluded, Filled}
-use Rattle.reader.specs.declared.moves.Reader.{Reader}
-use Rattle.reader.specs.declared.moves.Stepped.{Stepped}
-use Rattle.reader.specs.declared.moves.Stepped.the-variants.{Stop, On}
+use Rattle.tracks.specs.declared.Reader.{Reader}
+use Rattle.tracks.specs.declared.Stepped.{Stepped}
+use Rattle.tracks.specs.declared.Stepped.the-variants.{Stop, On}
 use Rattle.reader.specs.declared.turns.Outcome.{Outcome}
 use Rattle.reader.specs.declared.turns.Outcome.the-variants.{Taken, Refused}
 use Rattle.qdimacs.proofs.Right.{Right, Where}
@@ -39,7 +39,7 @@ use Rattle.meaning.proofs.Basics.{by-cases, and-l, and-r}
 use Rattle.meaning.proofs.Lists.{all-append, all-le}
 use Rattle.meaning.proofs.Prefix.{mentioned-all, mentioned-some}
 use Rattle.table.proofs.RankLaws.{length-ranks}
-use Rattle.reader.proofs.TrackLaws.{closing}
+use Rattle.tracks.proofs.TrackLaws.{closing}
 
 -- the answer, from how the fold over the tokens ends
 read-is : (s : List ℕ) → length s ≤ maxText → read s ≡ tidiedAnswer (finish (length s) (onTokens (reads start) (tokens s)))

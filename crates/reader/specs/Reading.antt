@@ -16,7 +16,7 @@ use Rattle.table.specs.Check.{rightLengths}
 use Rattle.reader.specs.declared.ReadAnswer.{ReadAnswer}
 use Rattle.reader.specs.declared.ReadAnswer.the-variants.{Read, Length, Syntax, Short, Range, Twice, Unbound, Count, TooBig}
 use Rattle.reader.specs.declared.Reading.{Reading}
-use Rattle.reader.specs.declared.moves.Reader.{Reader}
+use Rattle.tracks.specs.declared.Reader.{Reader}
 use Rattle.reader.specs.declared.turns.Outcome.{Outcome}
 use Rattle.reader.specs.declared.turns.Outcome.the-variants.{Taken, Refused}
 

@@ -6,7 +6,6 @@ use crate::turns::fill;
 use table::Counts;
 use table::zero;
 
-mod moves;
 mod turns;
 
 // What is said of a text: it was read, or why not.

@@ -13,12 +13,8 @@ ghost use Rattle.qdimacs.specs.Decide.{decide};
 ghost use Rattle.qdimacs.specs.Read.{start};
 ghost use Rattle.scan.specs.Phases.{rightPhase};
 ghost use Rattle.table.specs.Ranks.{ranksOf};
-ghost use Rattle.reader.specs.Tracks.{fresh, Tracks};
+ghost use Rattle.tracks.specs.Tracks.{fresh, Tracks};
 ghost use Rattle.reader.specs.Reading.{concluded, Filled};
-use crate::moves::Reader;
-use crate::moves::Stepped;
-use crate::moves::apply;
-use crate::moves::is_complete;
 use qdimacs::Move;
 use qdimacs::Word;
 use scan::bytes::Next;
@@ -28,6 +24,10 @@ use scan::moves::decide_move;
 use scan::moves::variable;
 use scan::words::read_word;
 use table::Counts;
+use tracks::Reader;
+use tracks::Stepped;
+use tracks::apply;
+use tracks::is_complete;
 
 // A text was read, and its formula has these counts; or it was refused with this number, at this offset.
 pub enum Outcome {

@@ -26,9 +26,9 @@ use Rattle.table.specs.declared.Pending.{Pending}
 use Rattle.table.specs.declared.Pushed.{Pushed}
 use Rattle.table.specs.declared.Pushed.the-variants.{Done, Full}
 use Rattle.marks.specs.Marks.{Marked, Went}
-use Rattle.reader.specs.Tracks.{soFar, inPhase, withM, withC, withEntry, withPending, withClosed, Stores, Tracks, Allowed, entered, Entered, Steps}
-use Rattle.reader.specs.declared.moves.Reader.{Reader}
-use Rattle.reader.specs.declared.moves.Stepped.the-variants.{Stop, On}
+use Rattle.tracks.specs.Tracks.{soFar, inPhase, withM, withC, withEntry, withPending, withClosed, Stores, Tracks, Allowed, entered, Entered, Steps}
+use Rattle.tracks.specs.declared.Reader.{Reader}
+use Rattle.tracks.specs.declared.Stepped.the-variants.{Stop, On}
 use Rattle.meaning.proofs.Basics.{by-cases, clash, and-l, and-r}
 use Rattle.meaning.proofs.Lists.{all-append}
 use Rattle.meaning.proofs.Parts.{room-of, of-room}

@@ -1,8 +1,8 @@
 -- By its parts.
 -- Assumes nothing.
 use borrow.Author.Needs.{needs}
-use Rattle.reader.proofs.moves.Reader.with_closed.Statement.{statement}
-use Rattle.reader.proofs.moves.Reader.with_closed.Tie as tie
+use Rattle.tracks.proofs.Reader.with_closed.Statement.{statement}
+use Rattle.tracks.proofs.Reader.with_closed.Tie as tie
 
 add-closed : tie.Need-add-closed
 add-closed c = search needs

@@ -1,8 +1,8 @@
 -- By its parts.
 -- Assumes nothing.
 use borrow.Author.Needs.{needs}
-use Rattle.reader.proofs.moves.Reader.new.Statement.{statement}
-use Rattle.reader.proofs.moves.Reader.new.Tie as tie
+use Rattle.tracks.proofs.Reader.new.Statement.{statement}
+use Rattle.tracks.proofs.Reader.new.Tie as tie
 
 empty-requires : tie.Need-empty-requires
 empty-requires c κs = search needs

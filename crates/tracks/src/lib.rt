@@ -5,7 +5,7 @@ ghost use Prim.Native.Nat.{ℕ, _≤_};
 ghost use Rattle.meaning.specs.WellFormed.{maxClauses};
 ghost use Rattle.qdimacs.specs.Read.{State, complete, afterClause};
 ghost use Rattle.qdimacs.specs.declared.Move.the-variants.{Entry, Close};
-ghost use Rattle.reader.specs.Tracks.{fresh, inPhase, withM, withC, withEntry, withPending, withClosed, Stores, Tracks, Allowed, Entering, Entered, Ready, Steps};
+ghost use Rattle.tracks.specs.Tracks.{fresh, inPhase, withM, withC, withEntry, withPending, withClosed, Stores, Tracks, Allowed, Entering, Entered, Ready, Steps};
 use marks::close_marked;
 use qdimacs::Move;
 use qdimacs::Phase;

@@ -2,9 +2,9 @@
 -- Assumes nothing.
 use borrow.Author.Needs.{needs}
 use Rattle.qdimacs.specs.Read.{complete}
-use Rattle.reader.proofs.SeenLaws.{not-complete}
-use Rattle.reader.proofs.moves.is_complete.Statement.{statement}
-use Rattle.reader.proofs.moves.is_complete.Tie as tie
+use Rattle.tracks.proofs.PhaseLaws.{not-complete}
+use Rattle.tracks.proofs.is_complete.Statement.{statement}
+use Rattle.tracks.proofs.is_complete.Tie as tie
 
 enum-told : tie.Need-enum-told
 enum-told c = search needs

@@ -22,9 +22,9 @@ use Rattle.table.specs.Pending.{emptyPending, Pends}
 use Rattle.table.specs.declared.Counts.{Counts}
 use Rattle.table.specs.declared.Pending.{Pending}
 use Rattle.marks.specs.Marks.{Marks}
-use Rattle.reader.specs.declared.moves.Reader.{Reader}
-use Rattle.reader.specs.declared.moves.Stepped.{Stepped}
-use Rattle.reader.specs.declared.moves.Stepped.the-variants.{Stop, On}
+use Rattle.tracks.specs.declared.Reader.{Reader}
+use Rattle.tracks.specs.declared.Stepped.{Stepped}
+use Rattle.tracks.specs.declared.Stepped.the-variants.{Stop, On}
 
 -- the formula of a state: the closed clauses, tidied
 unfoldable pub soFar : State → Formula

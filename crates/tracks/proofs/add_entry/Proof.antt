@@ -1,10 +1,10 @@
 -- The entry goes into the table and has its rank; the table is never full.
 -- Assumes nothing.
 use borrow.Author.Needs.{needs}
-use Rattle.reader.specs.Tracks.{soFar}
-use Rattle.reader.proofs.TrackLaws.{entry-rank, entry-never, entry-done}
-use Rattle.reader.proofs.moves.add_entry.Statement.{statement}
-use Rattle.reader.proofs.moves.add_entry.Tie as tie
+use Rattle.tracks.specs.Tracks.{soFar}
+use Rattle.tracks.proofs.TrackLaws.{entry-rank, entry-never, entry-done}
+use Rattle.tracks.proofs.add_entry.Statement.{statement}
+use Rattle.tracks.proofs.add_entry.Tie as tie
 
 push-variable-requires : tie.Need-push-variable-requires
 push-variable-requires c κs = search needs

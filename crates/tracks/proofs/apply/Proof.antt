@@ -3,10 +3,10 @@
 use mathlib.Core.Path.{subst}
 use borrow.Author.Needs.{needs}
 use Rattle.table.proofs.PendingLaws.{pended}
-use Rattle.reader.specs.Tracks.{Allowed}
-use Rattle.reader.proofs.TrackLaws.{step-fault, step-go, step-m, step-c, step-entry, step-literal}
-use Rattle.reader.proofs.moves.apply.Statement.{statement}
-use Rattle.reader.proofs.moves.apply.Tie as tie
+use Rattle.tracks.specs.Tracks.{Allowed}
+use Rattle.tracks.proofs.TrackLaws.{step-fault, step-go, step-m, step-c, step-entry, step-literal}
+use Rattle.tracks.proofs.apply.Statement.{statement}
+use Rattle.tracks.proofs.apply.Tie as tie
 
 enum-known-mv : tie.Need-enum-known-mv
 enum-known-mv c = search needs

@@ -2,8 +2,8 @@
 -- Assumes nothing.
 use Rattle.meaning.proofs.Basics.{eqb-eq, eqb-ne}
 use Rattle.qdimacs.specs.Read.{afterClause}
-use Rattle.reader.proofs.moves.after_clause.Statement.{statement}
-use Rattle.reader.proofs.moves.after_clause.Tie as tie
+use Rattle.tracks.proofs.after_clause.Statement.{statement}
+use Rattle.tracks.proofs.after_clause.Tie as tie
 
 returns : tie.Need-returns
 unfolding afterClause

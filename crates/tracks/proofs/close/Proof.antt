@@ -3,10 +3,10 @@
 use borrow.Author.Needs.{needs}
 use Rattle.meaning.specs.Tidy.{tidied}
 use Rattle.table.proofs.PendingLaws.{pended}
-use Rattle.reader.specs.Tracks.{soFar}
-use Rattle.reader.proofs.TrackLaws.{tracks-marked, close-few, close-ranks, close-full, close-done}
-use Rattle.reader.proofs.moves.close.Statement.{statement}
-use Rattle.reader.proofs.moves.close.Tie as tie
+use Rattle.tracks.specs.Tracks.{soFar}
+use Rattle.tracks.proofs.TrackLaws.{tracks-marked, close-few, close-ranks, close-full, close-done}
+use Rattle.tracks.proofs.close.Statement.{statement}
+use Rattle.tracks.proofs.close.Tie as tie
 
 close-marked-requires : tie.Need-close-marked-requires
 close-marked-requires c κs =
