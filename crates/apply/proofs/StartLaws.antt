@@ -15,7 +15,7 @@ use Rattle.table.specs.declared.Counts.{Counts}
 use Rattle.table.proofs.HoldLaws.{prefix-is, held, bounds}
 use Rattle.permits.proofs.PlaceLaws.{entries-of}
 use Rattle.steps.specs.Given.{Given}
-use Rattle.table.specs.Check.{named}
+use Rattle.table.specs.Lent.{named}
 use Rattle.apply.specs.Applied.{Kept, Lends, Lent}
 
 pub kept-held : {t : List ℕ} {c : Counts} → Kept t c → Held t c

@@ -11,7 +11,7 @@ use Rattle.rules.specs.Entry.{Call, bad, call, readEntry}
 use Rattle.rules.specs.Step.{resultOf, Refusal, entryBad, notPermitted, noRoom, StepAnswer, refused, stepped, stepOf}
 use Rattle.table.specs.Table.{tableLength, tableOf, countsOf, emptyFormula, Holds}
 use Rattle.steps.specs.Decide.{callPermitted}
-use Rattle.table.specs.Check.{named}
+use Rattle.table.specs.Lent.{named}
 use Rattle.table.specs.declared.Counts.{Counts}
 use Rattle.apply.specs.declared.Stepping.{Stepping}
 use Rattle.apply.specs.declared.Stepping.the-variants.{Stepped, BadEntry, NotPermitted, NoRoom}

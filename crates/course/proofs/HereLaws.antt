@@ -10,7 +10,7 @@ use Rattle.meaning.specs.WellFormed.{fits}
 use Rattle.rules.specs.Step.{Refusal, refused, stepped, stepOf}
 use Rattle.rules.proofs.Kept.{Kept, step-kept}
 use Rattle.table.specs.Table.{tableOf, countsOf, emptyFormula, Holds}
-use Rattle.table.specs.Check.{named}
+use Rattle.table.specs.Lent.{named}
 use Rattle.table.specs.declared.Counts.{Counts}
 use Rattle.table.proofs.HoldLaws.{empty-holds, held, bounds}
 use Rattle.apply.specs.Applied.{Lends, Lent, Stands, Moves, formulaAfter, sideAfter}

@@ -6,8 +6,9 @@ use mathlib.Core.Bool.{true}
 use mathlib.Core.List.{List}
 use Prim.Native.Nat.{ℕ, _*_, _≤_}
 use lib.ListN.{take}
-use Rattle.table.specs.declared.Asked.the-variants as said
-use Rattle.table.specs.Check.{named, rightLengths, asked, askedNumber, literalsPart}
+use Rattle.judging.specs.declared.Asked.the-variants as said
+use Rattle.table.specs.Lent.{named, rightLengths}
+use Rattle.judging.specs.Check.{asked, askedNumber, literalsPart}
 use Rattle.table.specs.declared.Counts.{Counts}
 use Rattle.reader.specs.Reading.{readNumber, Reads}
 use Rattle.reader.specs.declared.Reading.{Reading}

@@ -6,13 +6,13 @@ use mathlib.Core.Bool.{Bool, true, false}
 use mathlib.Core.List.{List}
 use Prim.Native.Nat.{ℕ, _<_, _≤_}
 use borrow.Author.Tests.{le-leb, lt-leb}
-use Rattle.table.specs.declared.Asked.the-variants as said
+use Rattle.judging.specs.declared.Asked.the-variants as said
 use Rattle.meaning.specs.Formula.{Formula, mentions}
 use Rattle.meaning.specs.WellFormed.{wellFormed, fits}
 use Rattle.reasons.specs.Reason.{Reason, reasonOf}
 use Rattle.reasons.specs.Statement.{Says}
 use Rattle.reasons.proofs.Reasons.{reason-true, reason-is}
-use Rattle.table.specs.Check.{asked}
+use Rattle.judging.specs.Check.{asked}
 use Rattle.table.specs.declared.Counts.{Counts}
 use Rattle.apply.specs.Applied.{Lends}
 use Rattle.standing.specs.Standing.{formulaIn, firstFor, secondFor}

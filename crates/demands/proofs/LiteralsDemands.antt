@@ -5,15 +5,16 @@ use mathlib.Core.Bool.{false}
 use mathlib.Core.List.{List, []}
 use Prim.Native.Nat.{ℕ}
 use native.Mathlib.Omega.{arith}
-use Rattle.table.specs.declared.Asked.the-variants as said
-use Rattle.table.specs.Check.{named, rightLengths, judged, goodTable, asked, askedNumber, literalsPart}
+use Rattle.judging.specs.declared.Asked.the-variants as said
+use Rattle.table.specs.Lent.{named, rightLengths}
+use Rattle.judging.specs.Check.{judged, goodTable, asked, askedNumber, literalsPart}
 use Rattle.table.specs.declared.Counts.{Counts}
-use Rattle.table.specs.declared.Asked.{Asked}
+use Rattle.judging.specs.declared.Asked.{Asked}
 use Rattle.standing.specs.Standing.{formulaIn}
 use Rattle.demands.specs.Demands.{LiteralsDemands, NumberDemands}
 use Rattle.meaning.proofs.Basics.{by-cases}
 use Rattle.table.proofs.HoldLaws.{literals-are}
-use Rattle.table.proofs.LiteralLaws.{given-holds, given-part, none-wrong, none-malformed}
+use Rattle.judging.proofs.LiteralLaws.{given-holds, given-part, none-wrong, none-malformed}
 
 module _ (a b : List ℕ) (c : Counts) where
   pub literals-once : (part other : List ℕ) → part ≡ literalsPart a b c → other ≡ literalsPart a b c → part ≡ other

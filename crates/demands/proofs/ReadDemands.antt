@@ -15,7 +15,7 @@ use Rattle.meaning.specs.Game.{isTrue}
 use Rattle.meaning.specs.WellFormed.{literals, maxText}
 use Rattle.qdimacs.specs.Read.{fault, good, read}
 use Rattle.table.specs.Table.{emptyFormula, countsOf}
-use Rattle.table.specs.Check.{rightLengths}
+use Rattle.table.specs.Lent.{rightLengths}
 use Rattle.reader.specs.Reading.{readNumber, answerFor, refusal, readingFor, lengthsRight, readingOf, tableFor, firstAfter, secondAfter, Reads}
 use Rattle.reader.specs.declared.Reading.{Reading}
 use Rattle.standing.specs.Standing.{formulaIn, firstFor, secondFor}

@@ -6,7 +6,7 @@ use mathlib.Core.List.{List}
 use Prim.Native.Nat.{ℕ}
 use native.Mathlib.Omega.{arith}
 use lib.ListN.{length}
-use Rattle.table.specs.declared.Asked.the-variants as said
+use Rattle.judging.specs.declared.Asked.the-variants as said
 use Rattle.rules.specs.Run as rules
 use Rattle.meaning.specs.Formula.{Formula}
 use Rattle.meaning.specs.Game.{isTrue}
@@ -14,9 +14,9 @@ use Rattle.rules.specs.Entry.{LogRead, badLength, entries, readLog}
 use Rattle.rules.specs.Step.{entryBad, refusalNumber}
 use Rattle.rules.specs.Run.{Stop, allApplied, refusedBy, replayedNone, replay, replayRead, replayBytes}
 use Rattle.table.specs.Table.{countsOf}
-use Rattle.table.specs.Check.{asked, askedNumber}
+use Rattle.judging.specs.Check.{asked, askedNumber}
 use Rattle.table.specs.declared.Counts.{Counts}
-use Rattle.table.specs.declared.Asked.{Asked}
+use Rattle.judging.specs.declared.Asked.{Asked}
 use Rattle.standing.specs.Standing.{formulaIn, firstFor, secondFor, firstLeft, secondLeft}
 use Rattle.replaying.specs.Stepping.{stepNumber}
 use Rattle.replaying.specs.Replaying.{stopAnswer, replayedFor, replayIn, sideReplayed, Replays}

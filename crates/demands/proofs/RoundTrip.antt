@@ -15,7 +15,8 @@ use Rattle.meaning.specs.WellFormed.{maxText}
 use Rattle.qdimacs.specs.Read.{fault, good, read}
 use Rattle.qdimacs.specs.Faults.{LENGTH}
 use Rattle.table.specs.Table.{countsOf, decode, Holds}
-use Rattle.table.specs.Check.{named, rightLengths, goodTable}
+use Rattle.table.specs.Lent.{named, rightLengths}
+use Rattle.judging.specs.Check.{goodTable}
 use Rattle.table.specs.declared.Counts.{Counts}
 use Rattle.reader.specs.Reading.{readNumber, readingFor, lengthsRight, readingOf, tableFor, firstAfter, secondAfter, Reads}
 use Rattle.reader.specs.declared.Reading.{Reading}
@@ -24,7 +25,7 @@ use Rattle.writer.specs.declared.Writing.{Writing}
 use Rattle.demands.specs.Demands.{ReadBack}
 use Rattle.meaning.proofs.Basics.{by-cases, and-l}
 use Rattle.qdimacs.proofs.Faults.{too-long}
-use Rattle.table.proofs.GoodLaws.{true-holds}
+use Rattle.judging.proofs.GoodLaws.{true-holds}
 use Rattle.table.proofs.TableLaws.{table-empty}
 use Rattle.writer.proofs.RoundTrip.{wrote-good, wrote-reads}
 

@@ -9,7 +9,7 @@ use borrow.Author.Tests.{leb-true, leb-false}
 use lib.Dec.{leb, eqb}
 use lib.ListN.{length, take, drop}
 use lib.Seq.{take-at, drop-at}
-use Rattle.table.specs.declared.Asked.the-variants as said
+use Rattle.judging.specs.declared.Asked.the-variants as said
 use Rattle.running.specs.declared.runs.RunAnswer.the-variants as says
 use Rattle.rules.specs.Run as rules
 use Rattle.meaning.specs.Formula.{Formula}
@@ -18,9 +18,9 @@ use Rattle.rules.specs.Entry.{logBytes}
 use Rattle.rules.specs.Choice.{blocked}
 use Rattle.rules.specs.Run.{isTRUE, isFALSE, finished, outOfRoom, ended, stopped, stepBound, endNumber, outcomeNumber}
 use Rattle.table.specs.Table.{countsOf}
-use Rattle.table.specs.Check.{asked}
+use Rattle.judging.specs.Check.{asked}
 use Rattle.table.specs.declared.Counts.{Counts}
-use Rattle.table.specs.declared.Asked.{Asked}
+use Rattle.judging.specs.declared.Asked.{Asked}
 use Rattle.course.specs.Course.{sideFrom}
 use Rattle.standing.specs.Standing.{formulaIn, firstFor, secondFor}
 use Rattle.running.specs.Running.{runNumber, outcomeAnswer, runs, refuses, heardOf, heardFor, ranFor, firstRan, secondRan, logRan, heardIn, runIn, Runs}

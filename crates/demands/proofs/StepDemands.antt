@@ -6,14 +6,15 @@ use mathlib.Core.List.{List}
 use Prim.Native.Nat.{ℕ, _≤_}
 use native.Mathlib.Omega.{arith}
 use Rattle.rules.specs.Step as rules
-use Rattle.table.specs.declared.Asked.the-variants as said
+use Rattle.judging.specs.declared.Asked.the-variants as said
 use Rattle.meaning.specs.Formula.{Formula}
 use Rattle.meaning.specs.Game.{isTrue}
 use Rattle.rules.specs.Step.{Refusal, entryBad, notPermitted, noRoom, refusalNumber, refused, stepped, stepOf}
 use Rattle.table.specs.Table.{countsOf}
-use Rattle.table.specs.Check.{named, asked, askedNumber}
+use Rattle.table.specs.Lent.{named}
+use Rattle.judging.specs.Check.{asked, askedNumber}
 use Rattle.table.specs.declared.Counts.{Counts}
-use Rattle.table.specs.declared.Asked.{Asked}
+use Rattle.judging.specs.declared.Asked.{Asked}
 use Rattle.apply.specs.Applied.{formulaAfter, sideAfter}
 use Rattle.standing.specs.Standing.{formulaIn, firstFor, secondFor, firstLeft, secondLeft}
 use Rattle.replaying.specs.Stepping.{stepNumber, refusalAnswer, stepAnswer, answerFor, stepCounts, countsFor, stepIn, formulaLeft, sideLeft, answerOf, countsGiven, firstAfter, secondAfter, Steps}

@@ -7,7 +7,7 @@ use native.Mathlib.Omega.{arith}
 use lib.ListN.{length, take, drop}
 use lib.Seq.{take-at, drop-at}
 use Rattle.writer.specs.declared.WriteAnswer.the-variants as says
-use Rattle.table.specs.Check.{asked}
+use Rattle.judging.specs.Check.{asked}
 use Rattle.table.specs.declared.Counts.{Counts}
 use Rattle.writer.specs.Written.{writeNumber, bytesFor, outputFor, writingFor, textOf, answerOf, writingOf, outputOf, Wrote}
 use Rattle.writer.specs.declared.WriteAnswer.{WriteAnswer}

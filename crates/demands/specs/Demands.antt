@@ -7,7 +7,7 @@ use mathlib.Core.Bool.{true, false}
 use mathlib.Core.List.{List, [], _∷_}
 use Prim.Native.Nat.{ℕ, _+_, _*_, _/_, _≤_, _<_, min}
 use lib.ListN.{length, take, drop, replicate}
-use Rattle.table.specs.declared.Asked.the-variants as said
+use Rattle.judging.specs.declared.Asked.the-variants as said
 use Rattle.meaning.specs.Formula.{Formula}
 use Rattle.meaning.specs.Game.{isTrue}
 use Rattle.meaning.specs.Tidy.{tidied}
@@ -18,9 +18,10 @@ use Rattle.rules.specs.Step.{Refusal, refusalNumber, refused, stepped, stepOf}
 use Rattle.rules.specs.Choice.{allowed, blocked}
 use Rattle.rules.specs.Run.{allApplied, replay, replayBytes}
 use Rattle.table.specs.Table.{literalsAt, tableLength, allLiterals}
-use Rattle.table.specs.Check.{named, rightLengths, asked, askedNumber}
+use Rattle.table.specs.Lent.{named, rightLengths}
+use Rattle.judging.specs.Check.{asked, askedNumber}
 use Rattle.table.specs.declared.Counts.{Counts}
-use Rattle.table.specs.declared.Asked.{Asked}
+use Rattle.judging.specs.declared.Asked.{Asked}
 use Rattle.reader.specs.Reading.{readNumber, lengthsRight}
 use Rattle.reader.specs.declared.Reading.{Reading}
 use Rattle.writer.specs.Written.{writeNumber, textOf, numberOf}

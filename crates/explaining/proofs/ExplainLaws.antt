@@ -6,14 +6,14 @@ use mathlib.Core.List.{List}
 use Prim.Native.Nat.{ℕ, _<_, _≤_}
 use borrow.Author.Tests.{le-leb, lt-leb}
 use lib.ListN.{take}
-use Rattle.table.specs.declared.Asked.the-variants as said
+use Rattle.judging.specs.declared.Asked.the-variants as said
 use Rattle.explaining.specs.declared.explains.ReasonAnswer.the-variants as says
 use Rattle.meaning.specs.Formula.{Formula, mentions}
 use Rattle.reasons.specs.Reason.{Limit, ofVariables, ofClauses, ofLiterals, Reason, verdict, nextEntry, ownEntry, tooFarRight, notLighter, between, tooHeavy, overLimit, reasonOf}
 use Rattle.table.specs.Table.{Holds}
-use Rattle.table.specs.Check.{asked}
+use Rattle.judging.specs.Check.{asked}
 use Rattle.table.specs.declared.Counts.{Counts}
-use Rattle.table.specs.declared.Asked.{Asked}
+use Rattle.judging.specs.declared.Asked.{Asked}
 use Rattle.reasoning.specs.Whys.{limitAs, whyAs}
 use Rattle.reasoning.specs.declared.Why.{Why}
 use Rattle.apply.specs.Applied.{Stands}

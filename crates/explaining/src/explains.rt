@@ -12,9 +12,9 @@ ghost use Rattle.explaining.specs.Explaining.{reasonNumber, whyBack, ans
 use reasoning::Why;
 use reasoning::explain;
 use reasoning::has_variable;
-use table::Asked;
+use judging::Asked;
 use table::Counts;
-use table::literals_answer;
+use judging::literals_answer;
 use table::zero;
 
 // What comes of a call. The reasons: the formula has that verdict; the run's next entry; the entry of the step on the variable, which

@@ -10,13 +10,14 @@ use mir.Val.{boolByte}
 use borrow.Author.Tests.{le-leb, lt-leb, eq-eqb, ne-eqb}
 use native.Mathlib.Omega.{arith}
 use Rattle.meaning.specs.Formula.{Formula}
-use Rattle.table.specs.Check.{named, rightLengths, asked, askedNumber, literalsGiven, literalsPart}
+use Rattle.table.specs.Lent.{named, rightLengths}
+use Rattle.judging.specs.Check.{asked, askedNumber, literalsGiven, literalsPart}
 use Rattle.table.specs.Table.{decode, allLiterals}
 use Rattle.table.specs.declared.Counts.{Counts}
-use Rattle.table.specs.declared.Asked.{Asked}
-use Rattle.table.specs.declared.Asked.the-variants.{Given, WrongLength, Malformed}
+use Rattle.judging.specs.declared.Asked.{Asked}
+use Rattle.judging.specs.declared.Asked.the-variants.{Given, WrongLength, Malformed}
 use Rattle.table.proofs.HoldLaws.{literals-are}
-use Rattle.table.proofs.LiteralLaws.{given-holds, given-part}
+use Rattle.judging.proofs.LiteralLaws.{given-holds, given-part}
 use Rattle.exports.specs.Records.{sideKnown, countsIn, recordOf, sideNumber, noPart, partOf, partIn}
 use Rattle.exports.specs.Calls.{Said, placeAsked, literalsAsked, numberAsked, LiteralsCall}
 

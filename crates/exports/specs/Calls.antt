@@ -5,7 +5,7 @@ use mathlib.Core.Path.{_≡_}
 use mathlib.Core.Bool.{Bool, true, false, cond}
 use mathlib.Core.List.{List, []}
 use Prim.Native.Nat.{ℕ}
-use Rattle.table.specs.Check.{asked, askedNumber, literalsPart}
+use Rattle.judging.specs.Check.{asked, askedNumber, literalsPart}
 use Rattle.reader.specs.Reading.{Reads, readNumber}
 use Rattle.reader.specs.declared.Reading.{Reading}
 use Rattle.writer.specs.Written.{Wrote, writeNumber}

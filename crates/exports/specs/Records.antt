@@ -6,10 +6,10 @@ use mathlib.Core.Bool.{Bool, cond}
 use mathlib.Core.List.{List, [], _∷_}
 use lib.Dec.{eqb, leb}
 use lib.ListN.{getD, set, take, drop}
-use Rattle.table.specs.Check.{rightLengths}
+use Rattle.table.specs.Lent.{rightLengths}
 use Rattle.table.specs.declared.Counts.{Counts}
-use Rattle.table.specs.declared.Asked.{Asked}
-use Rattle.table.specs.declared.Asked.the-variants.{Given, WrongLength, Malformed}
+use Rattle.judging.specs.declared.Asked.{Asked}
+use Rattle.judging.specs.declared.Asked.the-variants.{Given, WrongLength, Malformed}
 
 -- the fourth number is 0 for the first table and 1 for the second
 unfoldable pub sideKnown : List ℕ → Bool

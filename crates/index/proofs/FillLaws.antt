@@ -18,9 +18,8 @@ use Rattle.index.specs.Signs.{signed}
 use Rattle.index.specs.Build.{lower, startsIn, withNumber, HeldWell, Filled, Listable, Turn, Turned, Tallies, TallyIn}
 use Rattle.meaning.proofs.Basics.{and-l, and-r, and-i}
 use Rattle.meaning.proofs.Lists.{all-append}
-use Rattle.table.proofs.HoldLaws.{room, count-clauses}
+use Rattle.table.proofs.HoldLaws.{room, count-clauses, used-is}
 use Rattle.table.proofs.ListLaws.{drop-replicate}
-use Rattle.table.proofs.LiteralLaws.{used-is}
 use Rattle.table.proofs.LoopLaws.{all-getD}
 use Rattle.table.proofs.PadLaws.{length-all}
 use Rattle.table.proofs.StayLaws.{small-at}

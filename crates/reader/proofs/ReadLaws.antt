@@ -13,7 +13,7 @@ use Rattle.meaning.specs.Tidy.{tidied, build, buildOn}
 use Rattle.meaning.specs.WellFormed.{maxText}
 use Rattle.qdimacs.specs.Read.{start, fault, good, read}
 use Rattle.table.specs.Table.{emptyFormula, tableOf, countsOf}
-use Rattle.table.specs.Check.{rightLengths}
+use Rattle.table.specs.Lent.{rightLengths}
 use Rattle.table.specs.Pending.{emptyPending}
 use Rattle.table.specs.declared.Counts.{Counts}
 use Rattle.tracks.specs.Tracks.{soFar, fresh, Tracks}

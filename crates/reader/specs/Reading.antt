@@ -12,7 +12,7 @@ use Rattle.meaning.specs.WellFormed.{maxText}
 use Rattle.qdimacs.specs.Faults.{LENGTH, SYNTAX, SHORT, RANGE, TWICE, UNBOUND, COUNT, TOO-BIG}
 use Rattle.qdimacs.specs.Read.{complete, fault, good, read}
 use Rattle.table.specs.Table.{emptyFormula, tableOf, countsOf}
-use Rattle.table.specs.Check.{rightLengths}
+use Rattle.table.specs.Lent.{rightLengths}
 use Rattle.reader.specs.declared.ReadAnswer.{ReadAnswer}
 use Rattle.reader.specs.declared.ReadAnswer.the-variants.{Read, Length, Syntax, Short, Range, Twice, Unbound, Count, TooBig}
 use Rattle.reader.specs.declared.Reading.{Reading}

@@ -5,12 +5,12 @@ use mathlib.Core.Bool.{not}
 use mathlib.Core.List.{List}
 use Prim.Native.Nat.{ℕ}
 use Rattle.rules.specs.Step as rules
-use Rattle.table.specs.declared.Asked.the-variants as said
+use Rattle.judging.specs.declared.Asked.the-variants as said
 use Rattle.replaying.specs.declared.stepping.StepAnswer.the-variants as says
 use Rattle.rules.specs.Step.{Refusal, entryBad, notPermitted, noRoom, refused, stepped, stepOf}
-use Rattle.table.specs.Check.{asked}
+use Rattle.judging.specs.Check.{asked}
 use Rattle.table.specs.declared.Counts.{Counts}
-use Rattle.table.specs.declared.Asked.{Asked}
+use Rattle.judging.specs.declared.Asked.{Asked}
 use Rattle.apply.specs.Applied.{refusedAs, steppingAs, Moves}
 use Rattle.apply.specs.declared.Stepping.{Stepping}
 use Rattle.standing.specs.Standing.{formulaIn, firstFor, secondFor, firstLeft, secondLeft}

@@ -5,15 +5,15 @@ use mathlib.Core.Path.{_≡_}
 use mathlib.Core.Bool.{Bool}
 use mathlib.Core.List.{List}
 use Prim.Native.Nat.{ℕ}
-use Rattle.table.specs.declared.Asked.the-variants as said
+use Rattle.judging.specs.declared.Asked.the-variants as said
 use Rattle.course.specs.declared.Stop.the-variants as came
 use Rattle.replaying.specs.declared.stepping.StepAnswer.the-variants as says
 use Rattle.rules.specs.Run as rules
 use Rattle.rules.specs.Run.{allApplied, refusedBy, replayBytes}
 use Rattle.table.specs.Table.{countsOf}
-use Rattle.table.specs.Check.{asked}
+use Rattle.judging.specs.Check.{asked}
 use Rattle.table.specs.declared.Counts.{Counts}
-use Rattle.table.specs.declared.Asked.{Asked}
+use Rattle.judging.specs.declared.Asked.{Asked}
 use Rattle.course.specs.Course.{sideFrom}
 use Rattle.course.specs.declared.Stop.{Stop}
 use Rattle.course.specs.declared.Replaying.{Replaying}

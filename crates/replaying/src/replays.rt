@@ -4,9 +4,9 @@ ghost use Rattle.replaying.specs.Replaying.{stopBack, replayedBack, Repl
 use crate::stepping::StepAnswer;
 use course::Replaying;
 use course::Stop;
-use table::Asked;
+use judging::Asked;
+use judging::literals_answer;
 use table::Counts;
-use table::literals_answer;
 
 // The answer (Done where all entries are applied, else the first refusal), the record of what the tables hold after it, and the
 // number of entries applied.

@@ -2,9 +2,9 @@
 ghost use mathlib.Core.Path.{_≡_};
 ghost use Rattle.replaying.specs.Stepping.{stepNumber, givenBack, Steps};
 use apply::Stepping;
-use table::Asked;
+use judging::Asked;
+use judging::literals_answer;
 use table::Counts;
-use table::literals_answer;
 
 // What comes of a step, or of a replay. No refusal: Done.
 pub enum StepAnswer {

@@ -5,13 +5,13 @@ use mathlib.Core.List.{List}
 use Prim.Native.Nat.{ℕ, _<_, _≤_}
 use borrow.Author.Tests.{le-leb, lt-leb}
 use lib.ListN.{length}
-use Rattle.table.specs.declared.Asked.the-variants as said
+use Rattle.judging.specs.declared.Asked.the-variants as said
 use Rattle.running.specs.declared.runs.RunAnswer.the-variants as says
 use Rattle.rules.specs.Run as rules
 use Rattle.rules.specs.Run.{isTRUE, isFALSE, finished, outOfRoom, ended, stopped}
-use Rattle.table.specs.Check.{asked}
+use Rattle.judging.specs.Check.{asked}
 use Rattle.table.specs.declared.Counts.{Counts}
-use Rattle.table.specs.declared.Asked.{Asked}
+use Rattle.judging.specs.declared.Asked.{Asked}
 use Rattle.course.specs.Course.{outcomeAs, RanAs}
 use Rattle.course.specs.declared.Running.{Running}
 use Rattle.standing.specs.Standing.{formulaIn, firstFor, secondFor}

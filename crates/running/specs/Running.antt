@@ -7,16 +7,16 @@ use mathlib.Core.List.{List, _++_}
 use Prim.Native.Nat.{ℕ, _*_}
 use lib.Dec.{leb}
 use lib.ListN.{length, drop}
-use Rattle.table.specs.declared.Asked.the-variants as said
+use Rattle.judging.specs.declared.Asked.the-variants as said
 use Rattle.course.specs.declared.Outcome.the-variants as came
 use Rattle.running.specs.declared.runs.RunAnswer.the-variants as says
 use Rattle.rules.specs.Entry.{logBytes}
 use Rattle.rules.specs.Run as rules
 use Rattle.rules.specs.Run.{isTRUE, isFALSE, finished, outOfRoom, ended, stopped}
 use Rattle.table.specs.Table.{countsOf}
-use Rattle.table.specs.Check.{asked}
+use Rattle.judging.specs.Check.{asked}
 use Rattle.table.specs.declared.Counts.{Counts}
-use Rattle.table.specs.declared.Asked.{Asked}
+use Rattle.judging.specs.declared.Asked.{Asked}
 use Rattle.course.specs.Course.{sideFrom}
 use Rattle.course.specs.declared.Outcome.{Outcome}
 use Rattle.course.specs.declared.Running.{Running}

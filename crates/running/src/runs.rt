@@ -3,9 +3,9 @@ ghost use mathlib.Core.Path.{_≡_};
 ghost use Rattle.running.specs.Running.{runNumber, answerBack, ranBack, Runs};
 use course::Outcome;
 use course::Running;
-use table::Asked;
+use judging::Asked;
+use judging::literals_answer;
 use table::Counts;
-use table::literals_answer;
 
 // What comes of a call: how the run ends, or why it is refused.
 pub enum RunAnswer {

@@ -8,20 +8,21 @@ use native.Mathlib.Omega.{arith}
 use borrow.Author.Tests.{eq-eqb, eqb-true}
 use lib.Dec.{eqb}
 use lib.ListN.{length, length-replicate}
-use Rattle.table.specs.declared.Asked.the-variants as said
+use Rattle.judging.specs.declared.Asked.the-variants as said
 use Rattle.meaning.specs.Formula.{Formula}
 use Rattle.meaning.specs.WellFormed.{wellFormed, fits}
 use Rattle.table.specs.Table.{tableLength, tableOf, countsOf, decode, emptyFormula, Holds}
-use Rattle.table.specs.Check.{layoutHolds, goodTable, named, rightLengths, asked}
+use Rattle.table.specs.Lent.{named, rightLengths}
+use Rattle.judging.specs.Check.{layoutHolds, goodTable, asked}
 use Rattle.table.specs.declared.Counts.{Counts}
-use Rattle.table.specs.declared.Asked.{Asked}
+use Rattle.judging.specs.declared.Asked.{Asked}
 use Rattle.apply.specs.Applied.{Lends, Lent}
 use Rattle.standing.specs.Standing.{formulaIn, firstFor, secondFor}
 use Rattle.meaning.proofs.Basics.{by-cases, and-l, and-r, and-i}
 use Rattle.meaning.proofs.Parts.{room-of}
 use Rattle.table.proofs.TableLaws.{length-table, table-empty}
 use Rattle.table.proofs.DecodeLaws.{decode-holds, holds-decoded}
-use Rattle.table.proofs.GoodLaws.{holds-true, true-holds}
+use Rattle.judging.proofs.GoodLaws.{holds-true, true-holds}
 use Rattle.writer.proofs.RoundTrip.{given-good, good-given}
 
 -- Before: the table that the record names holds a well formed formula, and both have the right length ----------

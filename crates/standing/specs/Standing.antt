@@ -5,10 +5,10 @@ use mathlib.Core.Bool.{Bool, cond}
 use mathlib.Core.List.{List}
 use Rattle.meaning.specs.Formula.{Formula}
 use Rattle.table.specs.Table.{tableOf, decode, emptyFormula}
-use Rattle.table.specs.Check.{named}
+use Rattle.table.specs.Lent.{named}
 use Rattle.table.specs.declared.Counts.{Counts}
-use Rattle.table.specs.declared.Asked.{Asked}
-use Rattle.table.specs.declared.Asked.the-variants.{Given, WrongLength, Malformed}
+use Rattle.judging.specs.declared.Asked.{Asked}
+use Rattle.judging.specs.declared.Asked.the-variants.{Given, WrongLength, Malformed}
 
 -- before: the formula in the table that the record names
 unfoldable pub formulaIn : List ℕ → List ℕ → Counts → Formula

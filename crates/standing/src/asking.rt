@@ -1,10 +1,10 @@
 // The literals of the formula in whichever of two lent tables the record names. No table is touched.
 ghost use mathlib.Core.Path.{_≡_};
-ghost use Rattle.table.specs.Check.{asked, askedNumber, literalsPart};
-use table::Asked;
+ghost use Rattle.judging.specs.Check.{asked, askedNumber, literalsPart};
+use judging::Asked;
+use judging::literals_answer;
+use judging::literals_part;
 use table::Counts;
-use table::literals_answer;
-use table::literals_part;
 
 // The literals, as a part of one of the two tables; an empty part of the first where the call is refused. Any tables, any record.
 pub fn literals<'a>(first: &'a [u16], second: &'a [u16], c: Counts) -> &'a [u16]

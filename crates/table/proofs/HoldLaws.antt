@@ -57,6 +57,12 @@ module _ {φ : Formula} {t : List ℕ} {c : Counts} (h : Holds φ t c) where
   pub literals-are : take (c .literals) (drop 3070 t) ≡ allLiterals (φ .clauses)
   literals-are = rw (count-literals, h .table) (table-used φ room)
 
+  -- the literals, as code cuts them from the table
+  pub used-is : take (3070 + c .literals - 3070) (drop 3070 t) ≡ allLiterals (φ .clauses)
+  used-is =
+      let e : 3070 + c .literals - 3070 ≡ c .literals = omega arith in
+      ap (λ (n : ℕ). take n (drop 3070 t)) e ∙ literals-are
+
   -- what start_of reads
   pub start-first : (i : ℕ) → i ≡ 0 → 3070 ≡ 3070 + startOf (φ .clauses) i
   start-first i e = rw (e, start-zero)

@@ -15,9 +15,4 @@ pub mod PutLaws
 pub mod SortLaws
 pub mod PendingLaws
 pub mod DecodeLaws
-pub mod LayoutLaws
-pub mod LaidLaws
-pub mod GoodLaws
-pub mod CheckLaws
-pub mod LiteralLaws
 pub mod ReadyLaws

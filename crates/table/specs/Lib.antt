@@ -5,5 +5,4 @@ pub mod Ready
 pub mod Insert
 pub mod Rising
 pub mod Pending
-pub mod Layout
-pub mod Check
+pub mod Lent

@@ -5,26 +5,20 @@ ghost use mathlib.Core.Bool.{false};
 ghost use Rattle.table.specs.Pending.{emptyPending};
 ghost use Rattle.table.specs.Table.{emptyFormula, countsOf, clauseMore, variableMore};
 
-mod check;
 mod clauses;
 mod insert;
-mod layout;
-mod literals;
 mod parts;
 mod ranks;
 mod raw;
 mod reduce;
 mod tests;
 
-pub use check::well_formed;
 pub use clauses::add_clause;
 pub use clauses::push_clause;
 pub use clauses::push_variable;
 pub use clauses::zero;
-pub use layout::layout_ok;
-pub use literals::literals_answer;
-pub use literals::literals_part;
 pub use parts::clause_at;
+pub use parts::is_before;
 pub use parts::is_present;
 pub use ranks::add_rank;
 pub use ranks::is_new;
@@ -33,6 +27,8 @@ pub use raw::add_raw;
 pub use raw::close_clause;
 pub use raw::put_clause;
 pub use raw::put_literal;
+pub use reduce::all_stay;
+pub use reduce::rank_of;
 pub use reduce::reduce_in;
 pub use tests::contains;
 pub use tests::equal;
@@ -119,11 +115,4 @@ impl Pending {
             both: false,
         }
     }
-}
-
-// What is said of a call that looks at both lent tables.
-pub enum Asked {
-    Given,
-    WrongLength,
-    Malformed,
 }

@@ -1,6 +1,6 @@
 // What is printed.
+use judging::Asked;
 use libc::STDOUT_FILENO;
-use table::Asked;
 use table::Counts;
 
 pub fn say(text: &[u8]) {
@@ -23,7 +23,7 @@ pub fn say_counts(c: Counts) {
 
 // Whether the table is good for the counts.
 pub fn say_good(t: &[u16], c: Counts) {
-    if table::well_formed(t, c) {
+    if judging::well_formed(t, c) {
         say(b"well formed\n");
         return;
     }
@@ -60,6 +60,6 @@ fn say_answer(a: Asked) {
 
 // What is said of a call for the literals, and what it gives.
 pub fn say_literals<'a>(first: &'a [u16], second: &'a [u16], c: Counts) {
-    say_answer(table::literals_answer(first, second, c));
-    say_numbers(table::literals_part(first, second, c));
+    say_answer(judging::literals_answer(first, second, c));
+    say_numbers(judging::literals_part(first, second, c));
 }

@@ -10,13 +10,14 @@ use borrow.Author.Tests.{le-leb, lt-leb}
 use lib.Dec.{leb}
 use lib.ListN.{length}
 use lib.Seq.{sets-eq}
-use Rattle.table.specs.declared.Asked.the-variants as said
+use Rattle.judging.specs.declared.Asked.the-variants as said
 use Rattle.writer.specs.declared.WriteAnswer.the-variants as says
 use Rattle.qdimacs.specs.Write.{write}
 use Rattle.table.specs.Table.{decode}
-use Rattle.table.specs.Check.{goodTable, named, rightLengths, judged, asked}
+use Rattle.table.specs.Lent.{named, rightLengths}
+use Rattle.judging.specs.Check.{goodTable, judged, asked}
 use Rattle.table.specs.declared.Counts.{Counts}
-use Rattle.table.specs.declared.Asked.{Asked}
+use Rattle.judging.specs.declared.Asked.{Asked}
 use Rattle.lines.specs.Written.{Room, Written, Sized}
 use Rattle.writer.specs.Written.{mostText, answerFor, bytesFor, outputFor, writingFor, Told, textOf, answerOf, writingOf, outputOf, writeNumber, numberOf, Wrote}
 use Rattle.writer.specs.declared.Writing.{Writing}

@@ -10,20 +10,21 @@ use borrow.Author.Tests.{leb-true, le-leb}
 use lib.Dec.{leb}
 use lib.ListN.{length, take, drop}
 use lib.Seq.{take-at}
-use Rattle.table.specs.declared.Asked.the-variants as said
+use Rattle.judging.specs.declared.Asked.the-variants as said
 use Rattle.writer.specs.declared.WriteAnswer.the-variants as says
 use Rattle.meaning.specs.WellFormed.{wellFormed, fits, maxText}
 use Rattle.qdimacs.specs.Read.{good, read}
 use Rattle.table.specs.Table.{decode}
-use Rattle.table.specs.Check.{layoutHolds, goodTable, named, rightLengths, judged, asked}
+use Rattle.table.specs.Lent.{named, rightLengths}
+use Rattle.judging.specs.Check.{layoutHolds, goodTable, judged, asked}
 use Rattle.table.specs.declared.Counts.{Counts}
-use Rattle.table.specs.declared.Asked.{Asked}
+use Rattle.judging.specs.declared.Asked.{Asked}
 use Rattle.writer.specs.Written.{answerFor, bytesFor, outputFor, writingFor, textOf, answerOf, writingOf, outputOf, Wrote}
 use Rattle.writer.specs.declared.Writing.{Writing}
 use Rattle.meaning.proofs.Basics.{by-cases, and-l, and-r}
 use Rattle.qdimacs.proofs.Sizes.{write-short}
 use Rattle.qdimacs.proofs.Trip.{round-trip}
-use Rattle.table.proofs.GoodLaws.{true-holds}
+use Rattle.judging.proofs.GoodLaws.{true-holds}
 
 -- a call is answered Written only if nothing is said against the tables and the text has room
 answered : (a : Asked) (text out : List ℕ) → answerFor a text out ≡ says.Written → (a ≡ said.Given) × (length text ≤ length out)

@@ -7,13 +7,14 @@ use mathlib.Core.List.{List, _++_}
 use Prim.Native.Nat.{ℕ}
 use lib.Dec.{leb}
 use lib.ListN.{length, drop}
-use Rattle.table.specs.declared.Asked.the-variants as said
+use Rattle.judging.specs.declared.Asked.the-variants as said
 use Rattle.writer.specs.declared.WriteAnswer.the-variants as says
 use Rattle.qdimacs.specs.Write.{write}
 use Rattle.table.specs.Table.{decode}
-use Rattle.table.specs.Check.{goodTable, named, rightLengths, asked}
+use Rattle.table.specs.Lent.{named, rightLengths}
+use Rattle.judging.specs.Check.{goodTable, asked}
 use Rattle.table.specs.declared.Counts.{Counts}
-use Rattle.table.specs.declared.Asked.{Asked}
+use Rattle.judging.specs.declared.Asked.{Asked}
 use Rattle.writer.specs.declared.WriteAnswer.{WriteAnswer}
 use Rattle.writer.specs.declared.Writing.{Writing}
 

@@ -2,7 +2,7 @@
 ghost use Rattle.meaning.specs.Formula.{Formula};
 ghost use Rattle.qdimacs.specs.Write.{write};
 ghost use Rattle.table.specs.Table.{Holds, Held};
-ghost use Rattle.table.specs.declared.Asked.the-variants.{Given};
+ghost use Rattle.judging.specs.declared.Asked.the-variants.{Given};
 ghost use Rattle.lines.specs.Written.{Room, Written, Sized};
 ghost use Rattle.writer.specs.Written.{mostText, Told};
 use crate::WriteAnswer;

@@ -6,9 +6,9 @@ mod formula;
 ghost use mathlib.Core.Path.{_≡_};
 ghost use Rattle.writer.specs.Written.{writeNumber, Wrote};
 use formula::write_held;
-use table::Asked;
+use judging::Asked;
+use judging::literals_answer;
 use table::Counts;
-use table::literals_answer;
 
 // What comes of a call. No refusal: Written.
 pub enum WriteAnswer {

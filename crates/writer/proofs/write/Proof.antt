@@ -1,7 +1,7 @@
 -- By what is said of the tables: the table that the record names is written, or the call is refused.
 -- Assumes nothing.
 use Rattle.table.proofs.HoldLaws.{held}
-use Rattle.table.proofs.LiteralLaws.{named-second, named-first, given-at}
+use Rattle.judging.proofs.LiteralLaws.{named-second, named-first, given-at}
 use Rattle.writer.proofs.AnswerLaws.{wrote-length, wrote-malformed, wrote-told}
 use borrow.Author.Needs.{needs}
 use Rattle.writer.proofs.write.Statement.{statement}

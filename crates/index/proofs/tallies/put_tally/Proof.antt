@@ -2,8 +2,7 @@
 -- Assumes nothing.
 use mathlib.Core.Path.{ap, _∙_}
 use native.Mathlib.Omega.{arith}
-use Rattle.table.proofs.HoldLaws.{holds-bounds}
-use Rattle.table.proofs.LiteralLaws.{used-is}
+use Rattle.table.proofs.HoldLaws.{holds-bounds, used-is}
 use Rattle.index.specs.Build.{tallyOf, countsIn}
 use Rattle.index.proofs.FillLaws.{starts-needs}
 use borrow.Author.Needs.{needs}

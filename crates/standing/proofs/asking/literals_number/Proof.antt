@@ -1,7 +1,7 @@
 -- By what is said of the tables.
 -- Assumes nothing.
 use borrow.Author.Needs.{needs}
-use Rattle.table.specs.Check.{askedNumber}
+use Rattle.judging.specs.Check.{askedNumber}
 use Rattle.standing.proofs.asking.literals_number.Statement.{statement}
 use Rattle.standing.proofs.asking.literals_number.Tie as tie
 
