@@ -23,7 +23,7 @@ use table::Pushed;
 use table::add_clause;
 use table::clause_at;
 use table::push_clause;
-use table::reduce_in;
+use table::tidy_in;
 
 // Puts the stamps of all clauses of the table into the filter.
 pub fn cover(t: &[u16], c: Counts, filter: &mut [u64])
@@ -67,11 +67,11 @@ pub fn close_filtered(
     ensures { λ r. ⌜ ((φ : Formula) (raw : List ℕ) → Holds φ (now (t .entry)) c → goodPrefix (φ .prefix) ≡ true → now (ranks .entry) ≡ ranksOf (φ .prefix) → Pends raw (now (scratch .entry)) p → Became φ (withRaw φ raw) (c .second) r (now (t .exit))) ⌝ }
     ensures { λ r. ⌜ ((d : Counts) → r ≡ Pushed.Done d → Covers (now (t .exit)) d (now (filter .exit))) ⌝ }
 {
-    if p.both {
+    let q = tidy_in(scratch, p, ranks);
+    if q.both {
         return Pushed::Done(c);
     }
-    let n = p.size;
-    let m = reduce_in(scratch, n, ranks);
+    let m = q.size;
     add_filtered(t, c, &scratch[..m], filter)
 }
 
@@ -114,10 +114,10 @@ pub fn close_stamped(
     ensures { λ r. ⌜ ((φ : Formula) (raw : List ℕ) → Holds φ (now (t .entry)) c → goodPrefix (φ .prefix) ≡ true → now (ranks .entry) ≡ ranksOf (φ .prefix) → Pends raw (now (scratch .entry)) p → Became φ (withRaw φ raw) (c .second) r (now (t .exit))) ⌝ }
     ensures { λ r. ⌜ ((others : List (List ℕ)) (d : Counts) → CoversBut others (now (t .entry)) c (now (filter .entry)) → r ≡ Pushed.Done d → CoversBut others (now (t .exit)) d (now (filter .exit))) ⌝ }
 {
-    if p.both {
+    let q = tidy_in(scratch, p, ranks);
+    if q.both {
         return Pushed::Done(c);
     }
-    let n = p.size;
-    let m = reduce_in(scratch, n, ranks);
+    let m = q.size;
     add_stamped(t, c, &scratch[..m], filter)
 }

@@ -21,7 +21,7 @@ use table::Pushed;
 use table::clause_at;
 use table::equal;
 use table::push_clause;
-use table::reduce_in;
+use table::tidy_in;
 
 // Whether the hint is right: it is the number of a clause, and that clause equals this one.
 fn is_right(t: &[u16], c: Counts, clause: &[u16], hint: usize) -> bool
@@ -99,10 +99,10 @@ pub fn close_hinted(
     requires { ⌜ length (now ranks) ≡ 1024 ⌝ }
     ensures { λ r. ⌜ ((φ : Formula) (raw : List ℕ) → Holds φ (now (t .entry)) c → goodPrefix (φ .prefix) ≡ true → now (ranks .entry) ≡ ranksOf (φ .prefix) → Pends raw (now (scratch .entry)) p → Became φ (withRaw φ raw) (c .second) r (now (t .exit))) ⌝ }
 {
-    if p.both {
+    let q = tidy_in(scratch, p, ranks);
+    if q.both {
         return Pushed::Done(c);
     }
-    let n = p.size;
-    let m = reduce_in(scratch, n, ranks);
+    let m = q.size;
     add_hinted(t, c, scratch, m)
 }

@@ -16,7 +16,7 @@ use Rattle.table.specs.Ranks.{goodEntries}
 use Rattle.judging.specs.Layout.{layoutOk}
 use Rattle.judging.specs.Check.{counted, layoutHolds, goodTable}
 use Rattle.table.specs.declared.Counts.{Counts}
-use Rattle.meaning.proofs.Basics.{iff, clash, false-of, and-l, and-r, and-i}
+use Rattle.meaning.proofs.Basics.{clash, false-of, and-l, and-r, and-i}
 use Rattle.meaning.proofs.Lists.{same-path, same-self}
 use Rattle.meaning.proofs.Parts.{room-of}
 use Rattle.table.proofs.HoldLaws.{count-variables, count-clauses, count-literals}

@@ -1,13 +1,12 @@
 -- The answers of src/literals.rt.
 -- Assumes nothing.
-use Prim.Native.Nat.{ℕ, _+_, _-_}
-use mathlib.Core.Path.{_≡_, sym, ap, _∙_}
+use Prim.Native.Nat.{ℕ, _-_}
+use mathlib.Core.Path.{_≡_, sym, _∙_}
 use mathlib.Core.Bool.{Bool, true, false}
 use mathlib.Core.List.{List, []}
-use lib.ListN.{length, take, drop}
+use lib.ListN.{length}
 use borrow.Author.Tests.{eq-eqb, ne-eqb}
 use native.Mathlib.Omega.{arith}
-use Rattle.meaning.specs.Formula.{Formula}
 use Rattle.meaning.specs.WellFormed.{wellFormed}
 use Rattle.table.specs.Table.{allLiterals, decode, Holds}
 use Rattle.table.specs.Lent.{named, rightLengths}
@@ -16,7 +15,6 @@ use Rattle.table.specs.declared.Counts.{Counts}
 use Rattle.judging.specs.declared.Asked.{Asked}
 use Rattle.judging.specs.declared.Asked.the-variants.{Given, WrongLength, Malformed}
 use Rattle.meaning.proofs.Basics.{by-cases, and-l}
-use Rattle.table.proofs.HoldLaws.{literals-are}
 use Rattle.judging.proofs.GoodLaws.{true-holds}
 
 -- what is said of one table

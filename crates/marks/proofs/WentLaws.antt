@@ -8,12 +8,11 @@ use native.Mathlib.Omega.{arith}
 use lib.ListN.{take}
 use Rattle.meaning.specs.Lists.{anyOf, same}
 use Rattle.meaning.specs.Formula.{Formula}
-use Rattle.meaning.specs.Tidy.{addTidied}
-use Rattle.meaning.specs.WellFormed.{fits, goodPrefix}
+use Rattle.meaning.specs.Tidy.{tidy, addTidied}
+use Rattle.meaning.specs.WellFormed.{fits}
 use Rattle.table.specs.Table.{withClause, withNewClause, withRaw, Holds}
 use Rattle.table.specs.Answer.{Became}
-use Rattle.table.specs.Ranks.{ranksOf, reducedBy}
-use Rattle.table.specs.Pending.{Pends}
+use Rattle.table.specs.Pending.{tidiedIn}
 use Rattle.table.specs.declared.Counts.{Counts}
 use Rattle.table.specs.declared.Pending.{Pending}
 use Rattle.table.specs.declared.Pushed.{Pushed}
@@ -21,7 +20,7 @@ use Rattle.table.specs.declared.Pushed.the-variants.{Done, Full}
 use Rattle.meaning.proofs.Parts.{room-of}
 use Rattle.table.proofs.HoldLaws.{count-clauses}
 use Rattle.table.proofs.AnswerLaws.{unchanged, became-fits, became-full, pushed-clauses}
-use Rattle.table.proofs.PendingLaws.{raw-both, raw-one}
+use Rattle.table.proofs.CloseLaws.{raw-both, raw-one}
 use Rattle.marks.specs.Marks.{Marks, Went}
 
 -- what was to be is there already
@@ -64,13 +63,12 @@ module _ {φ : Formula} {t : List ℕ} {c : Counts} (h : Holds φ t c) {m : List
   unfolding withNewClause withClause addTidied
   went-new e w = rw e w
 
--- A raw clause: with both phases it is dropped; else what is left of it after reducing is added --------------------------
+-- A raw clause that is tidied: it is dropped, or added ---------------------------------------------------------------------
 module _ {φ : Formula} {t : List ℕ} {c : Counts} (h : Holds φ t c) {m : List ℕ} (k : Marks (φ .clauses) m)
-    {raw s : List ℕ} {p : Pending} (d : Pends raw s p) where
+    (raw s : List ℕ) (p : Pending) (is : tidiedIn s p ≡ tidy (φ .prefix) raw) where
   pub close-both : p .both ≡ true → Went φ (withRaw φ raw) (c .second) (Done c) t m
-  close-both e = stayed h k (withRaw φ raw) (raw-both φ d e)
+  close-both e = stayed h k (withRaw φ raw) (raw-both φ raw s p is e)
 
-  pub close-one : p .both ≡ false → goodPrefix (φ .prefix) ≡ true → {ranks : List ℕ} → ranks ≡ ranksOf (φ .prefix)
-      → {x : List ℕ} → x ≡ reducedBy ranks (take (p .size) s)
-      → {r : Pushed} {t′ m′ : List ℕ} → Went φ (withNewClause φ x) (c .second) r t′ m′ → Went φ (withRaw φ raw) (c .second) r t′ m′
-  close-one e g {ranks} q {x} f w = rw (raw-one φ d e g ranks q x f) w
+  pub close-one : p .both ≡ false → (r : Pushed) (t′ m′ : List ℕ)
+      → Went φ (withNewClause φ (take (p .size) s)) (c .second) r t′ m′ → Went φ (withRaw φ raw) (c .second) r t′ m′
+  close-one e r t′ m′ w = rw (raw-one φ raw s p is e) w

@@ -18,7 +18,7 @@ use table::Pushed;
 use table::clause_at;
 use table::equal;
 use table::push_clause;
-use table::reduce_in;
+use table::tidy_in;
 
 // How many heads there are. The links come after them.
 const SLOTS: usize = 9209;
@@ -106,10 +106,10 @@ pub fn close_marked(
     requires { ⌜ length (now ranks) ≡ 1024 ⌝ }
     ensures { λ r. ⌜ ((φ : Formula) (raw : List ℕ) → Holds φ (now (t .entry)) c → goodPrefix (φ .prefix) ≡ true → now (ranks .entry) ≡ ranksOf (φ .prefix) → Pends raw (now (scratch .entry)) p → Marks (φ .clauses) (now (marks .entry)) → Went φ (withRaw φ raw) (c .second) r (now (t .exit)) (now (marks .exit))) ⌝ }
 {
-    if p.both {
+    let q = tidy_in(scratch, p, ranks);
+    if q.both {
         return Pushed::Done(c);
     }
-    let n = p.size;
-    let m = reduce_in(scratch, n, ranks);
+    let m = q.size;
     add_marked(t, c, &scratch[..m], marks)
 }

@@ -4,7 +4,7 @@ use Prim.Native.Nat.{ℕ, suc, _+_, _-_, _≤_, _<_}
 use mathlib.Core.Path.{_≡_, refl, sym, ap, _∙_}
 use mathlib.Core.Bool.{Bool}
 use mathlib.Core.List.{List, []}
-use lib.ListN.{length, getD, take, drop, replicate}
+use lib.ListN.{length, getD, take, drop}
 use native.Mathlib.Omega.{arith}
 use native.Mathlib.Numerals.{add-one}
 use Rattle.meaning.specs.Lists.{allOf}
@@ -14,7 +14,7 @@ use Rattle.table.specs.Table.{allLiterals, startOf, tableOf, countsOf, H
 use Rattle.table.specs.declared.Counts.{Counts}
 use Rattle.meaning.proofs.Parts.{Room, room-of}
 use Rattle.table.proofs.PadLaws.{start-zero, start-next, start-within}
-use Rattle.table.proofs.TableLaws.{length-table, table-end-at, table-clause, table-used, table-prefix, table-empty}
+use Rattle.table.proofs.TableLaws.{length-table, table-end-at, table-clause, table-used, table-prefix}
 
 -- what the counts of a held formula are bounded by
 pub record Bounds (t : List ℕ) (c : Counts) : Type 0 where

@@ -14,5 +14,6 @@ pub mod RisingLaws
 pub mod PutLaws
 pub mod SortLaws
 pub mod PendingLaws
+pub mod CloseLaws
 pub mod DecodeLaws
 pub mod ReadyLaws

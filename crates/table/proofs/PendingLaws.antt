@@ -1,8 +1,8 @@
--- A raw clause on its way into the table: what putting a literal and closing the clause come to.
+-- A raw clause on its way into the table: what putting a literal comes to.
 -- Assumes nothing.
 use Prim.Native.Nat.{ℕ, _+_, _/_, _≤_, _<_}
 use mathlib.Core.Path.{_≡_, refl, sym, ap, _∙_}
-use mathlib.Core.Bool.{Bool, true, false}
+use mathlib.Core.Bool.{true, false}
 use mathlib.Core.List.{List, [], _∷_, _++_, append-assoc, append-nil}
 use lib.ListN.{length, getD, take}
 use lib.Seq.{take-suc, take-all, length-take-le}
@@ -11,23 +11,15 @@ use borrow.Author.Tests.{le-leb, leb-true}
 use native.Mathlib.Omega.{arith}
 use native.Mathlib.Numerals.{add-one}
 use Rattle.meaning.specs.Lists.{allOf, anyOf, has}
-use Rattle.meaning.specs.Formula.{Formula, var, opposite}
-use Rattle.meaning.specs.Tidy.{insertNew, ascending, bothPhases, tidySorted, tidy, addTidied, reduce}
-use Rattle.meaning.specs.WellFormed.{goodPrefix}
-use Rattle.table.specs.Table.{withRaw, withNewClause, Holds}
-use Rattle.table.specs.Answer.{Became}
-use Rattle.table.specs.Ranks.{small, ranksOf, reducedBy}
+use Rattle.meaning.specs.Formula.{var, opposite}
+use Rattle.meaning.specs.Tidy.{insertNew, ascending, bothPhases}
+use Rattle.table.specs.Ranks.{small}
 use Rattle.table.specs.Pending.{inRange, emptyPending, Pends, Pended}
-use Rattle.table.specs.declared.Counts.{Counts}
 use Rattle.table.specs.declared.Pending.{Pending}
-use Rattle.table.specs.declared.Pushed.{Pushed}
-use Rattle.table.specs.declared.Pushed.the-variants.{Done}
 use Rattle.meaning.proofs.Basics.{clash, and-l, and-r, and-i}
 use Rattle.meaning.proofs.Lists.{all-snoc}
 use Rattle.table.proofs.LoopLaws.{all-getD}
-use Rattle.table.proofs.AnswerLaws.{unchanged}
-use Rattle.table.proofs.ReduceLaws.{reduce-is}
-use Rattle.table.proofs.SortLaws.{ascending-snoc, has-ascending, insert-there, insert-longer, both-ascending, both-snoc, single-opp, small-ascending, ascending-few}
+use Rattle.table.proofs.SortLaws.{ascending-snoc, has-ascending, insert-there, insert-longer, both-snoc, single-opp, small-ascending, ascending-few}
 
 pub range-is : (l : ℕ) → 2 ≤ l → l < 2048 → inRange l ≡ true
 unfolding inRange var
@@ -130,24 +122,3 @@ put-end raw clause i s p h k = rw (take-all i clause h) at k
 
 pub range-at : (clause : List ℕ) (i : ℕ) → allOf inRange clause ≡ true → i < length clause → (2 ≤ getD clause i 0) × (getD clause i 0 < 2048)
 range-at clause i a h = range-bounds (getD clause i 0) (all-getD inRange 0 clause i a h)
-
--- The raw clause is complete ------------------------------------------------------------------------------------
--- with both phases it leaves the formula as it is; else it is a clause more, the literals that stay
-module _ (φ : Formula) {raw s : List ℕ} {p : Pending} (d : Pends raw s p) where
-  pub raw-both : p .both ≡ true → withRaw φ raw ≡ φ
-  unfolding withRaw tidy tidySorted addTidied
-  raw-both e = rw (both-ascending raw ∙ sym (d .phases) ∙ e)
-
-  pub raw-one : p .both ≡ false → goodPrefix (φ .prefix) ≡ true → (ranks : List ℕ) → ranks ≡ ranksOf (φ .prefix) → (cl : List ℕ) → cl ≡ reducedBy ranks (take (p .size) s) → withRaw φ raw ≡ withNewClause φ cl
-  unfolding withRaw withNewClause tidy tidySorted
-  raw-one e g ranks k cl q =
-      let f : cl ≡ reduce (φ .prefix) (ascending raw) =
-      q ∙ ap (λ (x : List ℕ). reducedBy x (take (p .size) s)) k ∙ reduce-is (φ .prefix) g (take (p .size) s) (small-pending d e) ∙ ap (reduce (φ .prefix)) (d .sorted e) in
-      rw (both-ascending raw, ← d .phases, e, ← f)
-
-module _ {φ : Formula} {t : List ℕ} {c : Counts} (h : Holds φ t c) {raw s : List ℕ} {p : Pending} (d : Pends raw s p) where
-  pub close-both : p .both ≡ true → Became φ (withRaw φ raw) (c .second) (Done c) t
-  close-both e = unchanged h (withRaw φ raw) (raw-both φ d e)
-
-  pub close-one : p .both ≡ false → goodPrefix (φ .prefix) ≡ true → (ranks : List ℕ) → ranks ≡ ranksOf (φ .prefix) → (cl : List ℕ) → cl ≡ reducedBy ranks (take (p .size) s) → (r : Pushed) (t′ : List ℕ) → Became φ (withNewClause φ cl) (c .second) r t′ → Became φ (withRaw φ raw) (c .second) r t′
-  close-one e g ranks k cl q r t′ b = rw (raw-one φ d e g ranks k cl q) b

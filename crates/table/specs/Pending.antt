@@ -2,13 +2,13 @@
 -- Assumes nothing.
 use mathlib.Core.Path.{_≡_}
 use Prim.Native.Nat.{ℕ, _≤_}
-use mathlib.Core.Bool.{Bool, true, false, _&&_}
+use mathlib.Core.Bool.{Bool, true, false, _&&_, cond}
 use mathlib.Core.List.{List}
 use lib.Dec.{leb}
 use lib.ListN.{length, take}
 use Rattle.meaning.specs.Lists.{allOf}
 use Rattle.meaning.specs.Formula.{var}
-use Rattle.meaning.specs.Tidy.{ascending, bothPhases}
+use Rattle.meaning.specs.Tidy.{Tidied, dropped, kept, ascending, bothPhases}
 use Rattle.meaning.specs.WellFormed.{maxVariables}
 use Rattle.table.specs.declared.Pending.{Pending}
 
@@ -32,3 +32,7 @@ pub record Pends (raw s : List ℕ) (p : Pending) : Type 0 where
 pub record Pended (s : List ℕ) (p : Pending) : Type 0 where
   pub raw : List ℕ
   pub pends : Pends raw s p
+
+-- What they hold once the clause is tidied: it is dropped, or stands in the first places.
+unfoldable pub tidiedIn : List ℕ → Pending → Tidied
+tidiedIn s p = cond (p .both) dropped (kept (take (p .size) s))

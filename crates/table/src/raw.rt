@@ -7,11 +7,12 @@ ghost use mathlib.Core.List.{List, [], _∷_, _++_};
 ghost use lib.ListN.{length};
 ghost use Rattle.meaning.specs.Lists.{allOf};
 ghost use Rattle.meaning.specs.Formula.{Formula};
+ghost use Rattle.meaning.specs.Tidy.{tidy};
 ghost use Rattle.meaning.specs.WellFormed.{goodPrefix};
 ghost use Rattle.table.specs.Table.{withRaw, Holds, Held};
 ghost use Rattle.table.specs.Answer.{Became};
 ghost use Rattle.table.specs.Ranks.{ranksOf};
-ghost use Rattle.table.specs.Pending.{inRange, Pends, Pended};
+ghost use Rattle.table.specs.Pending.{inRange, Pends, Pended, tidiedIn};
 use crate::Counts;
 use crate::Pending;
 use crate::Pushed;
@@ -68,7 +69,25 @@ pub fn put_clause(scratch: &mut [u16], p: Pending, clause: &[u16]) -> Pending
     q
 }
 
-// The raw clause is complete: it is tidied by the ranks of the prefix, and added unless an equal one is there.
+// The raw clause is complete: it is tidied in the scratch, by the ranks of the prefix.
+pub fn tidy_in(scratch: &mut [u16], p: Pending, ranks: &[u16]) -> Pending
+    requires { ⌜ Pended (now scratch) p ⌝ }
+    requires { ⌜ length (now ranks) ≡ 1024 ⌝ }
+    ensures { λ r. ⌜ r .size ≤ 1023 ⌝ }
+    ensures { λ r. ⌜ ((raw q : List ℕ) → Pends raw (now (scratch .entry)) p → goodPrefix q ≡ true → now (ranks .entry) ≡ ranksOf q → tidiedIn (now (scratch .exit)) r ≡ tidy q raw) ⌝ }
+{
+    if p.both {
+        return p;
+    }
+    let n = p.size;
+    let m = reduce_in(scratch, n, ranks);
+    Pending {
+        size: m,
+        both: false,
+    }
+}
+
+// The same, and it is added unless an equal one is there.
 pub fn close_clause(
     t: &mut [u16],
     c: Counts,
@@ -81,11 +100,11 @@ pub fn close_clause(
     requires { ⌜ length (now ranks) ≡ 1024 ⌝ }
     ensures { λ r. ⌜ ((φ : Formula) (raw : List ℕ) → Holds φ (now (t .entry)) c → goodPrefix (φ .prefix) ≡ true → now (ranks .entry) ≡ ranksOf (φ .prefix) → Pends raw (now (scratch .entry)) p → Became φ (withRaw φ raw) (c .second) r (now (t .exit))) ⌝ }
 {
-    if p.both {
+    let q = tidy_in(scratch, p, ranks);
+    if q.both {
         return Pushed::Done(c);
     }
-    let n = p.size;
-    let m = reduce_in(scratch, n, ranks);
+    let m = q.size;
     add_clause(t, c, &scratch[..m])
 }
 

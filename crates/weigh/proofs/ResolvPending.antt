@@ -1,7 +1,7 @@
--- A raw clause in the scratch, tidied in place; and that a resolvent's literals are of its two clauses.
+-- What a tidied clause in the scratch is compared with; and that a resolvent's literals are of its two clauses.
 -- Assumes nothing.
 use Prim.Native.Nat.{ℕ, _+_, _*_}
-use mathlib.Core.Path.{_≡_, refl, sym, ap, _∙_}
+use mathlib.Core.Path.{_≡_, refl, sym, _∙_}
 use mathlib.Core.Bool.{Bool, true, false, _||_, not, cond}
 use mathlib.Core.List.{List, _++_}
 use lib.ListN.{take}
@@ -9,33 +9,14 @@ use lib.Dec.{eqb}
 use Rattle.meaning.specs.Lists.{allOf, has, same, without}
 use Rattle.meaning.specs.Formula.{plain, negated}
 use Rattle.meaning.specs.Tidy.{Tidied, ascending, bothPhases, stays, reduce, dropped, kept, tidySorted, tidy}
-use Rattle.meaning.specs.WellFormed.{goodPrefix}
-use Rattle.table.specs.Ranks.{ranksOf, reducedBy}
-use Rattle.table.specs.Pending.{Pends}
+use Rattle.table.specs.Pending.{Pends, tidiedIn}
 use Rattle.table.specs.declared.Pending.{Pending}
 use Rattle.merging.specs.Merging.{joined}
-use Rattle.weigh.specs.Resolving.{resolvent, becomes, covers, tidiedIn}
+use Rattle.weigh.specs.Resolving.{resolvent, becomes, covers}
 use Rattle.meaning.proofs.Basics.{false-of, clash, or-il, or-ir, or-elim}
 use Rattle.meaning.proofs.Lists.{any-append, any-ascending, any-keep-le, same-path, all-of-has}
-use Rattle.table.proofs.SortLaws.{both-ascending}
-use Rattle.table.proofs.ReduceLaws.{reduce-is}
-use Rattle.table.proofs.PendingLaws.{small-pending}
 
--- Tidying in place -----------------------------------------------------------------------------------------------------
-module _ {raw s : List ℕ} {p : Pending} (d : Pends raw s p) (q : List ℕ) where
-  pub tidied-both : p .both ≡ true → tidiedIn s p ≡ tidy q raw
-  unfolding tidiedIn tidy tidySorted
-  tidied-both e = rw (both-ascending raw, ← d .phases, e)
-
-  pub tidied-one : p .both ≡ false → goodPrefix q ≡ true → (ranks : List ℕ) → ranks ≡ ranksOf q → (s′ : List ℕ) (m : ℕ)
-      → take m s′ ≡ reducedBy ranks (take (p .size) s) → tidiedIn s′ (record { size = m; both = false }) ≡ tidy q raw
-  unfolding tidiedIn tidy tidySorted
-  tidied-one e g ranks k s′ m is =
-      let f : take m s′ ≡ reduce q (ascending raw) =
-      is ∙ ap (λ (x : List ℕ). reducedBy x (take (p .size) s)) k ∙ reduce-is q g (take (p .size) s) (small-pending d e) ∙ ap (reduce q) (d .sorted e) in
-      rw (both-ascending raw, ← d .phases, e, f)
-
--- what it is compared with
+-- Compared with a clause -----------------------------------------------------------------------------------------------
 module _ (s : List ℕ) (p : Pending) (x : Tidied) (is : tidiedIn s p ≡ x) (c : List ℕ) where
   pub becomes-none : p .both ≡ true → false ≡ becomes c x
   unfolding tidiedIn becomes

@@ -16,12 +16,13 @@ use Rattle.meaning.specs.WellFormed.{wellFormed, literals, weight, fits}
 use Rattle.rules.specs.Entry.{resolve}
 use Rattle.rules.specs.Step.{resultOf}
 use Rattle.table.specs.Table.{countsOf, clauseMore}
+use Rattle.table.specs.Pending.{tidiedIn}
 use Rattle.table.specs.declared.Counts.{Counts}
 use Rattle.table.specs.declared.Pending.{Pending}
 use Rattle.growth.specs.Weights.{weighed, Summable}
 use Rattle.growth.specs.declared.Weighed.{Weighed}
 use Rattle.growth.specs.declared.Weighed.the-variants.{Over, Fitting, Wide}
-use Rattle.weigh.specs.Resolving.{restOf, pairs, resolventAt, resolvedTo, tidiedIn, Bounded, CountedTo}
+use Rattle.weigh.specs.Resolving.{restOf, pairs, resolventAt, resolvedTo, Bounded, CountedTo}
 use Rattle.meaning.proofs.Basics.{false-of, by-cases}
 use Rattle.meaning.proofs.Parts.{room-of, of-room}
 use Rattle.weigh.proofs.ResolvBuild.{add-none, add-clauses, add-literals}

@@ -13,7 +13,6 @@ use Rattle.meaning.specs.Tidy.{Tidied, dropped, kept, tidy, buildOn}
 use Rattle.rules.specs.Eliminate.{withLit, withoutVar, resolvents, fromUniversal}
 use Rattle.table.specs.Table.{Holds, countsOf}
 use Rattle.table.specs.declared.Counts.{Counts}
-use Rattle.table.specs.declared.Pending.{Pending}
 use Rattle.index.specs.Index.{Indexes}
 use Rattle.weigh.specs.declared.pairing.Pair.{Pair}
 
@@ -42,10 +41,6 @@ rarer cs l k = cond (ltb (length (withLit k cs)) (length (withLit l cs))) k l
 unfoldable pub rarestOf : List (List ℕ) → ℕ → List ℕ → ℕ
 rarestOf cs l [] = l
 rarestOf cs l (k ∷ c) = rarestOf cs (rarer cs l k) c
-
--- What a scratch and a record hold: a tidied clause, dropped, or in the first places -----------------------------------
-unfoldable pub tidiedIn : List ℕ → Pending → Tidied
-tidiedIn s p = cond (p .both) dropped (kept (take (p .size) s))
 
 -- n entries stand left of the first universal right of a; where there is none, n are all or more
 abbrev pub FirstUniversal : Formula → ℕ → ℕ → Type 0

@@ -8,36 +8,18 @@ ghost use Rattle.meaning.specs.Lists.{has};
 ghost use Rattle.meaning.specs.Tidy.{tidy};
 ghost use Rattle.meaning.specs.WellFormed.{goodPrefix};
 ghost use Rattle.table.specs.Ranks.{ranksOf, goodEntries};
-ghost use Rattle.table.specs.Pending.{Pends, Pended};
+ghost use Rattle.table.specs.Pending.{tidiedIn};
 ghost use Rattle.merging.specs.Merging.{Ordered};
-ghost use Rattle.weigh.specs.Resolving.{resolvent, covers, staysIn, fitsIn, becomes, tidiedIn};
+ghost use Rattle.weigh.specs.Resolving.{resolvent, covers, staysIn, fitsIn, becomes};
 use merging::merge_in;
 use permits::is_universal;
 use table::Pending;
 use table::contains;
 use table::equal;
-use table::reduce_in;
+use table::tidy_in;
 
 // From this many literals on a resolvent is sooner made than looked for literal by literal, once the first literals fit.
 const LONG: usize = 32;
-
-// The raw clause is complete: it is tidied in the scratch, by the ranks of the prefix.
-fn tidy_in(scratch: &mut [u16], p: Pending, ranks: &[u16]) -> Pending
-    requires { ⌜ Pended (now scratch) p ⌝ }
-    requires { ⌜ length (now ranks) ≡ 1024 ⌝ }
-    ensures { λ r. ⌜ r .size ≤ 1023 ⌝ }
-    ensures { λ r. ⌜ ((raw q : List ℕ) → Pends raw (now (scratch .entry)) p → goodPrefix q ≡ true → now (ranks .entry) ≡ ranksOf q → tidiedIn (now (scratch .exit)) r ≡ tidy q raw) ⌝ }
-{
-    if p.both {
-        return p;
-    }
-    let n = p.size;
-    let m = reduce_in(scratch, n, ranks);
-    Pending {
-        size: m,
-        both: false,
-    }
-}
 
 // The resolvent of x and y, tidied, in the scratch.
 pub fn resolve_pair(scratch: &mut [u16], x: &[u16], y: &[u16], a: usize, ranks: &[u16]) -> Pending

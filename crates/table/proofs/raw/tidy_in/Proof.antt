@@ -2,10 +2,10 @@
 -- Assumes nothing.
 use native.Mathlib.Omega.{arith}
 use borrow.Author.Needs.{needs}
 use Rattle.table.proofs.PendingLaws.{small-pending}
-use Rattle.weigh.proofs.ResolvPending.{tidied-both, tidied-one}
-use Rattle.weigh.proofs.resolvents.tidy_in.Statement.{statement}
-use Rattle.weigh.proofs.resolvents.tidy_in.Tie as tie
+use Rattle.table.proofs.CloseLaws.{tidied-both, tidied-one}
+use Rattle.table.proofs.raw.tidy_in.Statement.{statement}
+use Rattle.table.proofs.raw.tidy_in.Tie as tie
 
 returns : tie.Need-returns
 returns c = (c .before .before .before .pre .0 .pends .within, λ raw q d g k. tidied-both d q (c .if1 .taken))
