@@ -5,7 +5,6 @@ ghost use mathlib.Core.Path.{_≡_};
 ghost use Prim.Native.Nat.{ℕ, _+_, _≤_, _<_};
 ghost use mathlib.Core.Bool.{true};
 ghost use mathlib.Core.List.{List};
-ghost use lib.Dec.{ltb};
 ghost use lib.ListN.{length, take};
 ghost use Rattle.meaning.specs.Lists.{anyOf, same};
 ghost use Rattle.meaning.specs.Formula.{Formula};
@@ -20,6 +19,7 @@ use table::Pending;
 use table::Pushed;
 use table::clause_at;
 use table::equal;
+use table::first_equal;
 use table::push_clause;
 use table::tidy_in;
 
@@ -32,22 +32,6 @@ fn is_right(t: &[u16], c: Counts, clause: &[u16], hint: usize) -> bool
         return equal(clause, clause_at(t, c, hint));
     }
     false
-}
-
-// The first clause equal to this one; the number of clauses where none is.
-fn first_equal(t: &[u16], c: Counts, clause: &[u16]) -> usize
-    requires { ⌜ Held (now t) c ⌝ }
-    ensures { λ r. ⌜ r ≤ c .clauses ⌝ }
-    ensures { λ r. ⌜ ((φ : Formula) → Holds φ (now (t .entry)) c → ltb r (c .clauses) ≡ anyOf (same (now (clause .entry))) (φ .clauses)) ⌝ }
-{
-    let mut i = 0;
-    while i < c.clauses {
-        if equal(clause, clause_at(t, c, i)) {
-            return i;
-        }
-        i += 1;
-    }
-    i
 }
 
 // The number becomes the first of the two hints at a place, and what was the first the second, unless the clause of m literals reaches there.
@@ -78,7 +62,7 @@ fn add_hinted(t: &mut [u16], c: Counts, scratch: &mut [u16], m: usize) -> Pushed
     if is_right(t, c, &scratch[..m], second) {
         return Pushed::Done(c);
     }
-    let k = first_equal(t, c, &scratch[..m]);
+    let k = first_equal(t, c, &scratch[..m], c.clauses);
     remember(scratch, m, at, k);
     if k < c.clauses {
         return Pushed::Done(c);

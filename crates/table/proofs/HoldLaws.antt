@@ -5,6 +5,7 @@ use mathlib.Core.Path.{_≡_, refl, sym, ap, _∙_}
 use mathlib.Core.Bool.{Bool}
 use mathlib.Core.List.{List, []}
 use lib.ListN.{length, getD, take, drop}
+use lib.Seq.{take-all}
 use native.Mathlib.Omega.{arith}
 use native.Mathlib.Numerals.{add-one}
 use Rattle.meaning.specs.Lists.{allOf}
@@ -62,6 +63,10 @@ module _ {φ : Formula} {t : List ℕ} {c : Counts} (h : Holds φ t c) where
   used-is =
       let e : 3070 + c .literals - 3070 ≡ c .literals = omega arith in
       ap (λ (n : ℕ). take n (drop 3070 t)) e ∙ literals-are
+
+  -- the first clauses, as many as are counted, are all
+  pub clauses-all : take (c .clauses) (φ .clauses) ≡ φ .clauses
+  clauses-all = take-all (c .clauses) (φ .clauses) (omega (arith, count-clauses))
 
   -- what start_of reads
   pub start-first : (i : ℕ) → i ≡ 0 → 3070 ≡ 3070 + startOf (φ .clauses) i

@@ -18,6 +18,7 @@ pub use clauses::push_clause;
 pub use clauses::push_variable;
 pub use clauses::zero;
 pub use parts::clause_at;
+pub use parts::first_equal;
 pub use parts::is_before;
 pub use parts::is_present;
 pub use ranks::add_rank;

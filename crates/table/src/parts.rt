@@ -2,6 +2,7 @@
 ghost use mathlib.Core.Path.{_≡_};
 ghost use Prim.Native.Nat.{_+_, _≤_, _<_};
 ghost use mathlib.Core.List.{[]};
+ghost use lib.Dec.{ltb};
 ghost use lib.ListN.{getD, take};
 ghost use Rattle.meaning.specs.Lists.{anyOf, same};
 ghost use Rattle.meaning.specs.Formula.{Formula};
@@ -34,20 +35,30 @@ pub fn clause_at(t: &[u16], c: Counts, i: usize) -> &[u16]
     &t[start..end]
 }
 
+// The first clause before `until` that equals this one; `until` where none does.
+pub fn first_equal(t: &[u16], c: Counts, clause: &[u16], until: usize) -> usize
+    requires { ⌜ Held (now t) c ⌝ }
+    requires { ⌜ until ≤ c .clauses ⌝ }
+    ensures { λ r. ⌜ r ≤ until ⌝ }
+    ensures { λ r. ⌜ ((φ : Formula) → Holds φ (now (t .entry)) c → ltb r until ≡ anyOf (same (now (clause .entry))) (take until (φ .clauses))) ⌝ }
+{
+    let mut i = 0;
+    while i < until {
+        if equal(clause, clause_at(t, c, i)) {
+            return i;
+        }
+        i += 1;
+    }
+    until
+}
+
 // Whether a clause equal to this one is among the first `until` of the table.
 pub fn is_before(t: &[u16], c: Counts, clause: &[u16], until: usize) -> bool
     requires { ⌜ Held (now t) c ⌝ }
     requires { ⌜ until ≤ c .clauses ⌝ }
     ensures { λ r. ⌜ ((φ : Formula) → Holds φ (now (t .entry)) c → r ≡ anyOf (same (now (clause .entry))) (take until (φ .clauses))) ⌝ }
 {
-    let mut i = 0;
-    while i < until {
-        if equal(clause, clause_at(t, c, i)) {
-            return true;
-        }
-        i += 1;
-    }
-    false
+    first_equal(t, c, clause, until) < until
 }
 
 // Whether a clause equal to this one is in the table.

@@ -1,12 +1,13 @@
 -- By whether a hint is right, and else by whether an equal clause is found. The clause itself stays in the scratch.
 -- Assumes nothing.
 use Prim.Native.Nat.{_+_, _%_}
-use mathlib.Core.Path.{sym, _∙_}
+use mathlib.Core.Path.{sym, ap, _∙_}
 use native.Mathlib.Omega.{arith}
 use lib.Seq.{length-take-le}
 use borrow.Author.Needs.{needs}
 use borrow.Author.Tests.{lt-ltb, le-ltb}
-use Rattle.table.proofs.HoldLaws.{bounds}
+use Rattle.meaning.specs.Lists.{anyOf, same}
+use Rattle.table.proofs.HoldLaws.{bounds, clauses-all}
 use Rattle.table.proofs.AnswerLaws.{add-there, add-new}
 use Rattle.hints.proofs.add_hinted.Statement.{statement}
 use Rattle.hints.proofs.add_hinted.Tie as tie
@@ -113,7 +114,7 @@ same-length-6 c = search needs
 returns-3 : tie.Need-returns-3
 returns-3 c =
     let e = c .before .before .before .before .before .before in
-    λ φ h. add-there h _ (sym (e .first-equal .ensures .1 φ h) ∙ lt-ltb _ _ (c .if3 .taken))
+    λ φ h. add-there h _ (sym (e .first-equal .ensures .1 φ h ∙ ap (anyOf (same _)) (clauses-all h)) ∙ lt-ltb _ _ (c .if3 .taken))
 
 slice-reshare-prefix-push-clause : tie.Need-slice-reshare-prefix-push-clause
 slice-reshare-prefix-push-clause c = search needs
@@ -139,7 +140,7 @@ returns-4 c =
     let n = p .before .before .before in
     let r = n .before .before .before .before in
     let e = r .before .before in
-    λ φ h. add-new h _ _ _ (sym (e .first-equal .ensures .1 φ h) ∙ le-ltb _ _ (n .if3 .left)) (rw (r .remember .ensures) at (p .push-clause .ensures φ h))
+    λ φ h. add-new h _ _ _ (sym (e .first-equal .ensures .1 φ h ∙ ap (anyOf (same _)) (clauses-all h)) ∙ le-ltb _ _ (n .if3 .left)) (rw (r .remember .ensures) at (p .push-clause .ensures φ h))
 
 pub add-hinted-spec : {M : Type 1} → statement M
 add-hinted-spec =

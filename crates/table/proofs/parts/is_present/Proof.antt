@@ -1,11 +1,9 @@
 -- The first clauses, as many as there are, are all.
 -- Assumes nothing.
 use mathlib.Core.Path.{ap, _∙_}
-use native.Mathlib.Omega.{arith}
-use lib.Seq.{take-all}
 use borrow.Author.Needs.{needs}
 use Rattle.meaning.specs.Lists.{anyOf, same}
-use Rattle.table.proofs.HoldLaws.{count-clauses}
+use Rattle.table.proofs.HoldLaws.{clauses-all}
 use Rattle.table.proofs.parts.is_present.Statement.{statement}
 use Rattle.table.proofs.parts.is_present.Tie as tie
 
@@ -13,9 +11,7 @@ is-before-requires : tie.Need-is-before-requires
 is-before-requires c κs = search needs
 
 returns : tie.Need-returns
-returns c =
-    let s = c .before .before .before in
-    λ φ h. c .is-before .ensures φ h ∙ ap (anyOf (same _)) (take-all (s .args .c .clauses) (φ .clauses) (omega (arith, count-clauses h)))
+returns c = λ φ h. c .is-before .ensures φ h ∙ ap (anyOf (same _)) (clauses-all h)
 
 pub is-present-spec : {M : Type 1} → statement M
 is-present-spec = tie.close (tie.spec is-before-requires returns)

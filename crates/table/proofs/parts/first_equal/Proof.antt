@@ -6,13 +6,14 @@ use mathlib.Core.List.{[]}
 use native.Mathlib.Omega.{arith}
 use lib.ListN.{take, drop}
 use borrow.Author.Needs.{needs}
+use borrow.Author.Tests.{lt-ltb, le-ltb}
 use Rattle.table.proofs.HoldLaws.{count-clauses}
 use Rattle.table.specs.Table.{Holds}
 use Rattle.meaning.specs.Formula.{Formula}
 use Rattle.meaning.specs.Lists.{anyOf, same}
 use Rattle.table.proofs.LoopLaws.{first-found, first-turn, first-end}
-use Rattle.table.proofs.parts.is_before.Statement.{statement}
-use Rattle.table.proofs.parts.is_before.Tie as tie
+use Rattle.table.proofs.parts.first_equal.Statement.{statement}
+use Rattle.table.proofs.parts.first_equal.Tie as tie
 
 abbrev Inv-loop : tie.InvT-loop
 Inv-loop t c clause until i₀ i = (i ≤ until) × ((φ : Formula) → Holds φ t c → anyOf (same clause) (take until (φ .clauses)) ≡ anyOf (same clause) (drop i (take until (φ .clauses))))
@@ -36,7 +37,7 @@ returns c =
     let a = c .before .before in
     let l = a .before .before in
     let s = l .before .before .before in
-    λ φ h. first-found (same _) [] (φ .clauses) (s .args .until) (omega (arith, s .pre .1, count-clauses h)) (l .loop .i) (l .loop .inv .1 φ h) (a .before .loop-test .taken) (ap (same _) (sym (a .clause-at .ensures φ h)) ∙ sym (c .before .equal .ensures) ∙ c .if1 .taken)
+    (search needs, λ φ h. lt-ltb _ _ (a .before .loop-test .taken) ∙ first-found (same _) [] (φ .clauses) (s .args .until) (omega (arith, s .pre .1, count-clauses h)) (l .loop .i) (l .loop .inv .1 φ h) (a .before .loop-test .taken) (ap (same _) (sym (a .clause-at .ensures φ h)) ∙ sym (c .before .equal .ensures) ∙ c .if1 .taken))
 
 add-i : tie.Need-add-i Inv-loop μ-loop
 add-i c = omega arith
@@ -55,10 +56,10 @@ returns-2 : tie.Need-returns-2 Inv-loop μ-loop
 returns-2 c =
     let l = c .before in
     let s = l .before .before .before in
-    λ φ h. first-end (same _) [] (φ .clauses) (s .args .until) (omega (arith, s .pre .1, count-clauses h)) (l .loop .i) (l .loop .inv .1 φ h) (c .loop-test .left)
+    (search needs, λ φ h. le-ltb (s .args .until) (s .args .until) (omega arith) ∙ first-end (same _) [] (φ .clauses) (s .args .until) (omega (arith, s .pre .1, count-clauses h)) (l .loop .i) (l .loop .inv .1 φ h) (c .loop-test .left))
 
-pub is-before-spec : {M : Type 1} → statement M
-is-before-spec =
+pub first-equal-spec : {M : Type 1} → statement M
+first-equal-spec =
     tie.close
     (tie.spec
     Inv-loop
