@@ -14,7 +14,7 @@ use Rattle.table.specs.Ranks.{ranksOf, goodEntries, Ranked}
 use Rattle.table.specs.declared.Counts.{Counts}
 use Rattle.table.proofs.HoldLaws.{prefix-is, held, bounds}
 use Rattle.permits.proofs.PlaceLaws.{entries-of}
-use Rattle.steps.specs.Given.{Given}
+use Rattle.rebuilds.specs.Given.{Given}
 use Rattle.table.specs.Lent.{named}
 use Rattle.apply.specs.Applied.{Kept, Lends, Lent}
 

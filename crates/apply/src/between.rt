@@ -8,7 +8,7 @@ ghost use Rattle.table.specs.Table.{tableOf, emptyFormula, Holds, Held};
 ghost use Rattle.apply.specs.Applied.{Known, Kept, Tried, Settled, Applied, Lends, Lent, Moves};
 ghost use Rattle.permits.specs.Calls.{called};
 ghost use Rattle.steps.specs.Decide.{callPermitted};
-ghost use Rattle.steps.specs.Given.{Given};
+ghost use Rattle.rebuilds.specs.Given.{Given};
 use crate::Stepping;
 use crate::calls::perform;
 use crate::calls::refuse;

@@ -3,3 +3,4 @@ pub mod BuildLaws
 pub mod RawLaws
 pub mod LeftLaws
 pub mod LeadLaws
+pub mod GivenLaws

@@ -1,2 +1,3 @@
 pub mod Raws
 pub mod Lead
+pub mod Given

@@ -1,3 +1,4 @@
 pub mod RecipeLaws
 pub mod FreeLaws
 pub mod FedLaws
+pub mod TurnLaws

@@ -23,7 +23,7 @@ use Rattle.meaning.proofs.Literals.{opp-plain, opp-negated}
 use Rattle.meaning.proofs.Prefix.{mentioned-all}
 use Rattle.rules.proofs.Fresh.{fresh-length}
 use Rattle.recipes.proofs.FedLaws.{map-same, bound-range, fed-keep, raws-keep}
-use Rattle.steps.proofs.KindLaws.{some-zero, some-in, fed-same, fed-drop}
+use Rattle.recipes.proofs.TurnLaws.{some-zero, some-in, fed-same, fed-drop}
 use Rattle.steps.proofs.ExpandPlaces.{rename-is, reaches-is, copied-is}
 use Rattle.steps.proofs.ExpandPrefix.{Split, no-copy, good-new}
 

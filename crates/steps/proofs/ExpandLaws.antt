@@ -20,7 +20,7 @@ use Rattle.table.specs.declared.Counts.{Counts}
 use Rattle.table.specs.declared.Pushed.{Pushed}
 use Rattle.table.specs.declared.Pushed.the-variants.{Done, Full}
 use Rattle.permits.specs.Places.{placeOf}
-use Rattle.steps.specs.Given.{Given}
+use Rattle.rebuilds.specs.Given.{Given}
 use Rattle.rebuilds.specs.Raws.{bare, withRaws}
 use Rattle.recipes.specs.Recipe.{rawsBy}
 use Rattle.recipes.specs.Left.{Shrunk}

@@ -2,75 +2,27 @@
 -- Assumes nothing.
 use Prim.Native.Nat.{ℕ, zero, suc, _+_, _<_}
 use mathlib.Core.Path.{_≡_, refl, sym, ap, _∙_}
-use mathlib.Core.Bool.{true, not, cond}
+use mathlib.Core.Bool.{true, not}
 use mathlib.Core.List.{List, [], _∷_, _++_, map}
 use lib.ListN.{getD}
-use lib.Dec.{eqb}
 use borrow.Author.Tests.{eq-eqb, ne-eqb}
 use native.Mathlib.Omega.{arith}
-use Rattle.meaning.specs.Lists.{allOf, keepIf, has, without}
+use Rattle.meaning.specs.Lists.{allOf, has, without}
 use Rattle.meaning.specs.Formula.{Formula, var, opposite, mentions, dropVar}
 use Rattle.meaning.specs.WellFormed.{wellFormed, fits}
 use Rattle.rules.specs.Simplify.{clauseAt, withoutLit, assign, becomesTrue, replaceAt, subsumeRaw, strengthenLit, strengthenRaw, replaceLit, replaced}
 use Rattle.table.specs.Pending.{inRange}
-use Rattle.recipes.specs.Recipe.{taken, less, turned, someOf, fed, rawBy, rawsBy, remade}
+use Rattle.recipes.specs.Recipe.{taken, rawBy, rawsBy, remade}
 use Rattle.recipes.specs.declared.Which.{Which}
 use Rattle.recipes.specs.declared.Which.the-variants.{All, But, Without}
 use Rattle.recipes.specs.declared.Turn.{Turn}
 use Rattle.recipes.specs.declared.Turn.the-variants.{Same, Drop, DropAt, Replace}
-use Rattle.meaning.proofs.Basics.{by-cases, false-of, and-l, and-r, eqb-sym}
+use Rattle.meaning.proofs.Basics.{false-of, and-l, and-r}
 use Rattle.meaning.proofs.Lists.{keep-all}
-use Rattle.meaning.proofs.Literals.{var-opp}
 use Rattle.meaning.proofs.Prefix.{mentioned-some, drop-none}
 use Rattle.meaning.proofs.Parts.{good-of}
-use Rattle.recipes.proofs.FedLaws.{in-range, map-same, fed-keep, raws-keep}
-
-pub range-opposite : (l : ℕ) → inRange l ≡ true → inRange (opposite l) ≡ true
-unfolding inRange
-range-opposite l h = rw (var-opp l) h
-
--- One clause ----------------------------------------------------------------------------------------------------------
-pub some-zero : someOf 0 ≡ []
-unfolding someOf inRange var
-some-zero = refl
-
-pub some-in : (k : ℕ) → inRange k ≡ true → someOf k ≡ k ∷ []
-unfolding someOf
-some-in k h = rw h
-
-pub fed-same : (q : List ℕ) (i : ℕ) (c : List ℕ) → allOf inRange c ≡ true → fed Same q i c ≡ c
-unfolding turned someOf
-fed-same q i c a =
-    fed-keep Same q i inRange inRange (λ k. k) c a (λ k h. refl) ∙ map-same (λ k. k) (λ x. refl) (keepIf inRange c) ∙ keep-all inRange c a
-
-some-less : (l k : ℕ) → inRange k ≡ true → someOf (less l k) ≡ cond (not (eqb l k)) (k ∷ []) []
-unfolding less
-some-less l k h = rw (eqb-sym l k) (by-cases (eqb k l) (λ e. rw e some-zero) (λ e. rw e (some-in k h)))
-
-pub fed-drop : (l : ℕ) (q : List ℕ) (i : ℕ) (c : List ℕ) → allOf inRange c ≡ true → fed (Drop l) q i c ≡ without l c
-unfolding turned without
-fed-drop l q i c a =
-    fed-keep (Drop l) q i inRange (λ k. not (eqb l k)) (λ k. k) c a (λ k h. some-less l k h) ∙ map-same (λ k. k) (λ x. refl) (keepIf (λ k. not (eqb l k)) c)
-
-fed-there : (b l : ℕ) (q : List ℕ) (i : ℕ) (c : List ℕ) → allOf inRange c ≡ true → i ≡ b → fed (DropAt b l) q i c ≡ without l c
-unfolding turned without
-fed-there b l q i c a e =
-    fed-keep (DropAt b l) q i inRange (λ k. not (eqb l k)) (λ k. k) c a (λ k h. rw (eq-eqb i b e) (some-less l k h)) ∙ map-same (λ k. k) (λ x. refl) (keepIf (λ k. not (eqb l k)) c)
-
-fed-elsewhere : (b l : ℕ) (q : List ℕ) (i : ℕ) (c : List ℕ) → allOf inRange c ≡ true → (i ≡ b → ⊥) → fed (DropAt b l) q i c ≡ c
-unfolding turned
-fed-elsewhere b l q i c a e =
-    fed-keep (DropAt b l) q i inRange inRange (λ k. k) c a (λ k h. rw (ne-eqb i b e, h) (some-in k h)) ∙ map-same (λ k. k) (λ x. refl) (keepIf inRange c) ∙ keep-all inRange c a
-
-range-replaced : (l m k : ℕ) → inRange m ≡ true → inRange k ≡ true → inRange (replaceLit l m k) ≡ true
-unfolding replaceLit
-range-replaced l m k n h =
-    by-cases (eqb k l) (λ e. rw e n) (λ e. rw e (by-cases (eqb k (opposite l)) (λ d. rw d (range-opposite m n)) (λ d. rw d h)))
-
-fed-replace : (l m : ℕ) (q : List ℕ) (i : ℕ) (c : List ℕ) → inRange m ≡ true → allOf inRange c ≡ true → fed (Replace l m) q i c ≡ map (replaceLit l m) c
-unfolding turned
-fed-replace l m q i c n a =
-    fed-keep (Replace l m) q i inRange inRange (replaceLit l m) c a (λ k h. rw h (some-in (replaceLit l m k) (range-replaced l m k n h))) ∙ ap (map (replaceLit l m)) (keep-all inRange c a)
+use Rattle.recipes.proofs.FedLaws.{in-range, raws-keep}
+use Rattle.recipes.proofs.TurnLaws.{fed-same, fed-drop, fed-there, fed-elsewhere, fed-replace}
 
 -- All clauses ---------------------------------------------------------------------------------------------------------
 -- one clause is treated apart

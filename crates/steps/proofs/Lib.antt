@@ -1,10 +1,7 @@
 pub mod KindLaws
-pub mod GivenLaws
-pub mod PairLaws
-pub mod IdleLaws
+pub mod MadeLaws
 pub mod CopyLaws
 pub mod DecideLaws
-pub mod ResolveLaws
 pub mod ExpandPlaces
 pub mod ExpandPrefix
 pub mod ExpandClauses

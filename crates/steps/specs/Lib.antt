@@ -1,4 +1,2 @@
-pub mod Given
-pub mod Pairs
 pub mod Decide
 pub mod Copies

@@ -5,7 +5,7 @@ ghost use Rattle.meaning.specs.Formula.{Formula};
 ghost use Rattle.table.specs.Table.{Held};
 ghost use Rattle.rules.specs.Simplify.{strengthenPermitted};
 ghost use Rattle.permits.specs.Calls.{called};
-ghost use Rattle.steps.specs.Given.{Given};
+ghost use Rattle.rebuilds.specs.Given.{Given};
 ghost use Rattle.steps.specs.Decide.{callPermitted};
 use permits::Call;
 use permits::Strengthens;

@@ -8,7 +8,7 @@ ghost use Rattle.table.specs.Table.{decode, Holds, Held};
 ghost use Rattle.table.specs.Answer.{Built};
 ghost use Rattle.rules.specs.Entry.{expand};
 ghost use Rattle.rules.specs.Step.{permitted, resultOf};
-ghost use Rattle.steps.specs.Given.{Given, Begun};
+ghost use Rattle.rebuilds.specs.Given.{Given, Begun};
 ghost use Rattle.rebuilds.specs.Raws.{withRaws};
 ghost use Rattle.recipes.specs.Recipe.{Ready};
 ghost use Rattle.recipes.specs.Left.{Shrunk};

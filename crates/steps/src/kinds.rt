@@ -7,7 +7,7 @@ ghost use Rattle.rules.specs.Simplify.{becomesTrue};
 ghost use Rattle.rules.specs.Entry.{unit, pure, subsume, strengthen, equality};
 ghost use Rattle.rules.specs.Step.{permitted, resultOf};
 ghost use Rattle.table.specs.Answer.{Built};
-ghost use Rattle.steps.specs.Given.{Given, Begun};
+ghost use Rattle.rebuilds.specs.Given.{Given, Begun};
 use permits::Strengthens;
 use permits::pure_literal;
 use permits::replacement_of;

@@ -3,8 +3,6 @@ mod copies;
 mod deciding;
 mod expanding;
 mod kinds;
-mod pairs;
-mod resolving;
 
 pub use deciding::is_permitted;
 pub use expanding::expand_into;
@@ -13,4 +11,3 @@ pub use kinds::pure_into;
 pub use kinds::strengthen_into;
 pub use kinds::subsume_into;
 pub use kinds::unit_into;
-pub use resolving::resolve_into;

@@ -5,7 +5,7 @@ use Rattle.table.proofs.HoldLaws.{held}
 use Rattle.recipes.specs.Left.{about}
 use Rattle.rebuilds.proofs.BuildLaws.{built-done}
 use Rattle.rebuilds.proofs.RawLaws.{ready-after, shrunk-after}
-use Rattle.steps.proofs.GivenLaws.{about-plain}
+use Rattle.recipes.proofs.TurnLaws.{about-plain}
 use Rattle.steps.proofs.ExpandLaws.{halves-full, halves-done}
 use borrow.Author.Needs.{needs}
 use Rattle.steps.proofs.expanding.add_halves.Statement.{statement}

@@ -10,12 +10,12 @@ use Rattle.table.specs.Table.{Holds, Held}
 use Rattle.table.specs.Answer.{Built}
 use Rattle.table.proofs.HoldLaws.{bounds, held, count-variables}
 use Rattle.permits.specs.Places.{placeOf}
-use Rattle.steps.specs.Given.{Given}
+use Rattle.rebuilds.specs.Given.{Given}
 use Rattle.rebuilds.specs.Raws.{bare}
 use Rattle.recipes.specs.Recipe.{Ready}
 use Rattle.rebuilds.proofs.BuildLaws.{built-done}
 use Rattle.rebuilds.proofs.RawLaws.{ranked-ready}
-use Rattle.steps.proofs.GivenLaws.{begun-held, begun-well, begun-ranks, given-ready}
+use Rattle.rebuilds.proofs.GivenLaws.{begun-held, begun-well, begun-ranks, given-ready}
 use Rattle.steps.proofs.ExpandLaws.{front, expand-shrunk, expand-few, expand-good, expand-full, expand-done, expand-never}
 use borrow.Author.Needs.{needs}
 use Rattle.steps.proofs.expanding.expand_into.Statement.{statement}

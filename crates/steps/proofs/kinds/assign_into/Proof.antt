@@ -1,6 +1,8 @@
 -- One recipe.
 -- Assumes nothing.
-use Rattle.steps.proofs.GivenLaws.{begun-rebuild, about-flip, assigned}
+use Rattle.rebuilds.proofs.GivenLaws.{begun-rebuild}
+use Rattle.recipes.proofs.TurnLaws.{about-flip}
+use Rattle.steps.proofs.MadeLaws.{assigned}
 use mathlib.Core.Path.{refl}
 use borrow.Author.Needs.{needs}
 use Rattle.steps.proofs.kinds.assign_into.Statement.{statement}

@@ -2,7 +2,9 @@
 -- Assumes nothing.
 use mathlib.Core.Path.{refl}
 use Rattle.rules.specs.Step.{permitted}
-use Rattle.steps.proofs.GivenLaws.{begun-held, begun-ranks, begun-rebuild, about-old, equality-made}
+use Rattle.rebuilds.proofs.GivenLaws.{begun-held, begun-ranks, begun-rebuild}
+use Rattle.recipes.proofs.TurnLaws.{about-old}
+use Rattle.steps.proofs.MadeLaws.{equality-made}
 use borrow.Author.Needs.{needs}
 use Rattle.steps.proofs.kinds.equality_into.Statement.{statement}
 use Rattle.steps.proofs.kinds.equality_into.Tie as tie

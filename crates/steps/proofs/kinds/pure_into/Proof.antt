@@ -1,7 +1,8 @@
 -- The pure literal becomes true.
 -- Assumes nothing.
 use Rattle.rules.specs.Step.{permitted}
-use Rattle.steps.proofs.GivenLaws.{begun-held, begun-ranks, pure-made}
+use Rattle.rebuilds.proofs.GivenLaws.{begun-held, begun-ranks}
+use Rattle.steps.proofs.MadeLaws.{pure-made}
 use borrow.Author.Needs.{needs}
 use Rattle.steps.proofs.kinds.pure_into.Statement.{statement}
 use Rattle.steps.proofs.kinds.pure_into.Tie as tie

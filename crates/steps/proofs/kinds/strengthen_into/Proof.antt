@@ -1,6 +1,7 @@
 -- One recipe; where the step is permitted there is a literal.
 -- Assumes nothing.
-use Rattle.steps.proofs.GivenLaws.{begun-held, begun-ranks, begun-rebuild, strengthen-made, strengthen-never}
+use Rattle.rebuilds.proofs.GivenLaws.{begun-held, begun-ranks, begun-rebuild}
+use Rattle.steps.proofs.MadeLaws.{strengthen-made, strengthen-never}
 use mathlib.Core.Path.{refl}
 use Rattle.recipes.specs.Left.{about}
 use borrow.Author.Needs.{needs}

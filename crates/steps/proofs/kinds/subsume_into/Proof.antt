@@ -1,6 +1,7 @@
 -- One recipe.
 -- Assumes nothing.
-use Rattle.steps.proofs.GivenLaws.{begun-rebuild, subsume-made}
+use Rattle.rebuilds.proofs.GivenLaws.{begun-rebuild}
+use Rattle.steps.proofs.MadeLaws.{subsume-made}
 use mathlib.Core.Path.{refl}
 use Rattle.recipes.specs.Left.{about}
 use borrow.Author.Needs.{needs}

@@ -1,6 +1,7 @@
 -- The literal of the clause becomes true.
 -- Assumes nothing.
-use Rattle.steps.proofs.GivenLaws.{begun-held, unit-made}
+use Rattle.rebuilds.proofs.GivenLaws.{begun-held}
+use Rattle.steps.proofs.MadeLaws.{unit-made}
 use borrow.Author.Needs.{needs}
 use Rattle.steps.proofs.kinds.unit_into.Statement.{statement}
 use Rattle.steps.proofs.kinds.unit_into.Tie as tie
