@@ -1,11 +1,8 @@
-// Each kind of step, from one lent table into the other.
-mod copies;
+// The steps of kinds 1 to 5, from one lent table into the other, and whether a call is permitted.
 mod deciding;
-mod expanding;
 mod kinds;
 
 pub use deciding::is_permitted;
-pub use expanding::expand_into;
 pub use kinds::equality_into;
 pub use kinds::pure_into;
 pub use kinds::strengthen_into;

@@ -14,7 +14,7 @@ use Rattle.rules.specs.Simplify.{withoutLit, assign}
 use Rattle.rules.specs.Eliminate.{allExist, inner, fresh, renameVar, renameLit, touching, others}
 use Rattle.table.specs.Pending.{inRange}
 use Rattle.recipes.specs.Recipe.{taken, reaches, copied, turned, someOf, fed, rawsBy}
-use Rattle.steps.specs.Copies.{halvesBy, expandedBy}
+use Rattle.expanding.specs.Copies.{halvesBy, expandedBy}
 use Rattle.recipes.specs.declared.Which.the-variants.{Near, Far}
 use Rattle.recipes.specs.declared.Turn.the-variants.{Same, Drop, Copy}
 use Rattle.meaning.proofs.Basics.{by-cases, and-l, and-r, eqb-sym}
@@ -24,8 +24,8 @@ use Rattle.meaning.proofs.Prefix.{mentioned-all}
 use Rattle.rules.proofs.Fresh.{fresh-length}
 use Rattle.recipes.proofs.FedLaws.{map-same, bound-range, fed-keep, raws-keep}
 use Rattle.recipes.proofs.TurnLaws.{some-zero, some-in, fed-same, fed-drop}
-use Rattle.steps.proofs.ExpandPlaces.{rename-is, reaches-is, copied-is}
-use Rattle.steps.proofs.ExpandPrefix.{Split, no-copy, good-new}
+use Rattle.expanding.proofs.ExpandPlaces.{rename-is, reaches-is, copied-is}
+use Rattle.expanding.proofs.ExpandPrefix.{Split, no-copy, good-new}
 
 -- two selections, one after the other
 keep-both : {A : Type 0} (f g : A → Bool) (xs : List A) → keepIf f (keepIf g xs) ≡ keepIf (λ x. g x && f x) xs

@@ -13,10 +13,10 @@ use Rattle.table.proofs.HoldLaws.{bounds, held}
 use Rattle.recipes.specs.Recipe.{Ready, Readied}
 use Rattle.recipes.proofs.RecipeLaws.{ready-length}
 use Rattle.rebuilds.proofs.BuildLaws.{built-done}
-use Rattle.steps.proofs.CopyLaws.{Copying, copying-start, copying-next, copying-full, copying-end}
+use Rattle.expanding.proofs.CopyLaws.{Copying, copying-start, copying-next, copying-full, copying-end}
 use borrow.Author.Needs.{needs}
-use Rattle.steps.proofs.copies.push_copies.Statement.{statement}
-use Rattle.steps.proofs.copies.push_copies.Tie as tie
+use Rattle.expanding.proofs.copies.push_copies.Statement.{statement}
+use Rattle.expanding.proofs.copies.push_copies.Tie as tie
 
 abbrev Inv-loop : tie.InvT-loop
 Inv-loop target₀ ranks k n enough e₀ v₀ target e v = (v ≤ k + n + 1) × (k ≤ 1023) × (n ≤ 1023) × Readied ranks × (length target ≡ length target₀) × Held target e × ((p : List ℕ) (ψ : Formula) → Ready p ranks → length p ≡ k → Holds ψ target₀ e₀ → Copying p ψ enough v (k + n + 1 - v) (map plain (fresh p n)) (e₀ .second) target e)

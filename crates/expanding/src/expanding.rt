@@ -12,7 +12,7 @@ ghost use Rattle.rebuilds.specs.Given.{Given, Begun};
 ghost use Rattle.rebuilds.specs.Raws.{withRaws};
 ghost use Rattle.recipes.specs.Recipe.{Ready};
 ghost use Rattle.recipes.specs.Left.{Shrunk};
-ghost use Rattle.steps.specs.Copies.{halvesBy, expandedBy};
+ghost use Rattle.expanding.specs.Copies.{halvesBy, expandedBy};
 use crate::copies::count_inner;
 use crate::copies::push_copies;
 use permits::place_of;

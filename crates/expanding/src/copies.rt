@@ -8,7 +8,7 @@ ghost use Rattle.rules.specs.Eliminate.{fresh};
 ghost use Rattle.table.specs.Table.{Holds, Held};
 ghost use Rattle.table.specs.Answer.{Built};
 ghost use Rattle.recipes.specs.Recipe.{Ready, Readied};
-ghost use Rattle.steps.specs.Copies.{existentials, withEntries, copiesFrom};
+ghost use Rattle.expanding.specs.Copies.{existentials, withEntries, copiesFrom};
 use permits::in_prefix;
 use table::Counts;
 use table::Pushed;

@@ -24,7 +24,7 @@ use Rattle.rebuilds.specs.Given.{Given}
 use Rattle.rebuilds.specs.Raws.{bare, withRaws}
 use Rattle.recipes.specs.Recipe.{rawsBy}
 use Rattle.recipes.specs.Left.{Shrunk}
-use Rattle.steps.specs.Copies.{existentials, withEntries, halvesBy, expandedBy}
+use Rattle.expanding.specs.Copies.{existentials, withEntries, halvesBy, expandedBy}
 use Rattle.recipes.specs.declared.Which.the-variants.{Near, Far}
 use Rattle.recipes.specs.declared.Turn.the-variants.{Same, Drop, Copy}
 use Rattle.meaning.proofs.Basics.{clash, and-r}
@@ -39,8 +39,8 @@ use Rattle.permits.proofs.PlaceLaws.{entries-of, large-out}
 use Rattle.rebuilds.proofs.BuildLaws.{raws-not, built-not, built-full, built-done, built-second, then-full, then-done}
 use Rattle.rebuilds.proofs.RawLaws.{shrunk-more}
 use Rattle.recipes.proofs.FedLaws.{numbers-in}
-use Rattle.steps.proofs.ExpandPrefix.{split-of, good-new, inner-many, inner-few}
-use Rattle.steps.proofs.ExpandClauses.{expanded-are}
+use Rattle.expanding.proofs.ExpandPrefix.{split-of, good-new, inner-many, inner-few}
+use Rattle.expanding.proofs.ExpandClauses.{expanded-are}
 
 -- One recipe after another ----------------------------------------------------------------------------------------------
 module _ (v s n : ℕ) (ψ : Formula) (cs : List (List ℕ)) (b : Bool) (r : Pushed) (t : List ℕ) where

@@ -6,10 +6,10 @@ use Rattle.recipes.specs.Left.{about}
 use Rattle.rebuilds.proofs.BuildLaws.{built-done}
 use Rattle.rebuilds.proofs.RawLaws.{ready-after, shrunk-after}
 use Rattle.recipes.proofs.TurnLaws.{about-plain}
-use Rattle.steps.proofs.ExpandLaws.{halves-full, halves-done}
+use Rattle.expanding.proofs.ExpandLaws.{halves-full, halves-done}
 use borrow.Author.Needs.{needs}
-use Rattle.steps.proofs.expanding.add_halves.Statement.{statement}
-use Rattle.steps.proofs.expanding.add_halves.Tie as tie
+use Rattle.expanding.proofs.expanding.add_halves.Statement.{statement}
+use Rattle.expanding.proofs.expanding.add_halves.Tie as tie
 
 mul-plain : tie.Need-mul-plain
 mul-plain c = search needs

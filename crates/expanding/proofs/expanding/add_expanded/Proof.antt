@@ -5,10 +5,10 @@ use Rattle.table.proofs.HoldLaws.{held}
 use Rattle.recipes.specs.Left.{about}
 use Rattle.rebuilds.proofs.BuildLaws.{built-done}
 use Rattle.rebuilds.proofs.RawLaws.{ready-after, shrunk-after}
-use Rattle.steps.proofs.ExpandLaws.{expanded-full, expanded-done}
+use Rattle.expanding.proofs.ExpandLaws.{expanded-full, expanded-done}
 use borrow.Author.Needs.{needs}
-use Rattle.steps.proofs.expanding.add_expanded.Statement.{statement}
-use Rattle.steps.proofs.expanding.add_expanded.Tie as tie
+use Rattle.expanding.proofs.expanding.add_expanded.Statement.{statement}
+use Rattle.expanding.proofs.expanding.add_expanded.Tie as tie
 
 add-all-requires : tie.Need-add-all-requires
 add-all-requires c κs =

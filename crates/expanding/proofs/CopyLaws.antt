@@ -18,7 +18,7 @@ use Rattle.table.specs.Answer.{Became, Built}
 use Rattle.table.specs.declared.Counts.{Counts}
 use Rattle.table.specs.declared.Pushed.{Pushed}
 use Rattle.table.specs.declared.Pushed.the-variants.{Done, Full}
-use Rattle.steps.specs.Copies.{existentials, withEntries, copiesFrom}
+use Rattle.expanding.specs.Copies.{existentials, withEntries, copiesFrom}
 use Rattle.meaning.proofs.Literals.{even-of, odd-of}
 use Rattle.meaning.proofs.Basics.{and-l, clash, false-of}
 use Rattle.meaning.proofs.Lists.{all-append}

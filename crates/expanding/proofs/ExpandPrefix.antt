@@ -12,7 +12,7 @@ use Rattle.meaning.specs.Formula.{var, odd, plain, isVar, mentions, dropVar, ri
 use Rattle.meaning.specs.WellFormed.{goodPrefix}
 use Rattle.rules.specs.Eliminate.{allExist, universalsFirst, inner, fresh}
 use Rattle.permits.specs.Places.{placeOf}
-use Rattle.steps.specs.Copies.{existentials}
+use Rattle.expanding.specs.Copies.{existentials}
 use Rattle.meaning.proofs.Basics.{by-cases, clash, false-of, and-l, and-r, not-true, eqb-self}
 use Rattle.meaning.proofs.Lists.{any-has, any-keep-le, all-has, all-of-has, keep-all}
 use Rattle.meaning.proofs.Literals.{var-of-plain}

@@ -16,10 +16,10 @@ use Rattle.recipes.specs.Recipe.{Ready}
 use Rattle.rebuilds.proofs.BuildLaws.{built-done}
 use Rattle.rebuilds.proofs.RawLaws.{ranked-ready}
 use Rattle.rebuilds.proofs.GivenLaws.{begun-held, begun-well, begun-ranks, given-ready}
-use Rattle.steps.proofs.ExpandLaws.{front, expand-shrunk, expand-few, expand-good, expand-full, expand-done, expand-never}
+use Rattle.expanding.proofs.ExpandLaws.{front, expand-shrunk, expand-few, expand-good, expand-full, expand-done, expand-never}
 use borrow.Author.Needs.{needs}
-use Rattle.steps.proofs.expanding.expand_into.Statement.{statement}
-use Rattle.steps.proofs.expanding.expand_into.Tie as tie
+use Rattle.expanding.proofs.expanding.expand_into.Statement.{statement}
+use Rattle.expanding.proofs.expanding.expand_into.Tie as tie
 
 -- a formula that the source holds
 abbrev Here : tie.Start → Formula → Type 0

@@ -1,9 +1,9 @@
 -- By whether there are enough, then by the ranks.
 -- Assumes nothing.
-use Rattle.steps.proofs.CopyLaws.{copy-enough, copy-there, copy-new}
+use Rattle.expanding.proofs.CopyLaws.{copy-enough, copy-there, copy-new}
 use borrow.Author.Needs.{needs}
-use Rattle.steps.proofs.copies.add_copy.Statement.{statement}
-use Rattle.steps.proofs.copies.add_copy.Tie as tie
+use Rattle.expanding.proofs.copies.add_copy.Statement.{statement}
+use Rattle.expanding.proofs.copies.add_copy.Tie as tie
 
 returns : tie.Need-returns
 returns c = λ p ψ r h. copy-enough p h _ _ (c .if1 .taken)

@@ -5,11 +5,11 @@ use mathlib.Core.Path.{_≡_}
 use mathlib.Core.Logic.{⊎-elim}
 use native.Mathlib.Omega.{arith}
 use lib.ListN.{length, drop}
-use Rattle.steps.specs.Copies.{existentials}
-use Rattle.steps.proofs.CopyLaws.{count-even, count-odd, count-end}
+use Rattle.expanding.specs.Copies.{existentials}
+use Rattle.expanding.proofs.CopyLaws.{count-even, count-odd, count-end}
 use borrow.Author.Needs.{needs}
-use Rattle.steps.proofs.copies.count_inner.Statement.{statement}
-use Rattle.steps.proofs.copies.count_inner.Tie as tie
+use Rattle.expanding.proofs.copies.count_inner.Statement.{statement}
+use Rattle.expanding.proofs.copies.count_inner.Tie as tie
 
 abbrev Inv-loop : tie.InvT-loop
 Inv-loop prefix from n₀ i₀ n i = (n ≤ i) × (n + existentials (drop i prefix) ≡ existentials (drop from prefix))

@@ -1,0 +1,5 @@
+pub mod CopyLaws
+pub mod ExpandPlaces
+pub mod ExpandPrefix
+pub mod ExpandClauses
+pub mod ExpandLaws
