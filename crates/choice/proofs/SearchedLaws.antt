@@ -27,7 +27,7 @@ use Rattle.meaning.proofs.Parts.{good-of, tidy-of, distinct-of}
 use Rattle.meaning.proofs.Again.{build-same}
 use Rattle.rules.proofs.Permitted.{pure-says, strengthen-says}
 use Rattle.weigh.proofs.ResolvResult.{result-is}
-use Rattle.weigh.proofs.ResolvSides.{stay-clauses}
+use Rattle.weigh.proofs.ResolvStay.{stay-clauses}
 use Rattle.choice.proofs.StayLaws.{first-more, keep-first, build-first, gone-first, gone-all, gone-distinct, replaced-first, goneWith, gone-is, no-pairs, pure-is-resolved}
 
 -- Among fewer clauses, with fewer existentials --------------------------------------------------------------------

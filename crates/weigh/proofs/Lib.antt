@@ -1,14 +1,9 @@
 pub mod ResolvBuild
 pub mod ResolvResult
 pub mod ResolvPairs
-pub mod ResolvSides
-pub mod ResolvPending
-pub mod ResolvFits
+pub mod ResolvStay
 pub mod ResolvRows
 pub mod ResolvFile
-pub mod AnyLaws
-pub mod ListedLaws
-pub mod TriesLaws
-pub mod EarlierLaws
+pub mod CameLaws
 pub mod ResolvWeigh
 pub mod ResolvStart

@@ -1,19 +1,19 @@
 -- Building in order, clause by clause: what is there afterwards, and that it never gets lighter.
 -- Assumes nothing.
 use Prim.Native.Nat.{ℕ, _+_, _≤_, _<_}
-use mathlib.Core.Path.{_≡_, refl, sym, ap, fun-ext, _∙_}
-use mathlib.Core.Bool.{Bool, true, false, _&&_, _||_, cond}
+use mathlib.Core.Path.{_≡_, refl, sym, ap, _∙_}
+use mathlib.Core.Bool.{Bool, true, false, _||_, cond}
 use mathlib.Core.List.{List, [], _∷_, _++_}
 use lib.ListN.{length, getD, take, length-append}
 use lib.Seq.{take-suc}
 use native.Mathlib.Numerals.{add-one}
 use native.Mathlib.Omega.{arith}
-use Rattle.meaning.specs.Lists.{anyOf, keepIf, same}
+use Rattle.meaning.specs.Lists.{anyOf, same}
 use Rattle.meaning.specs.Tidy.{Tidied, dropped, kept, tidy, addTidied, buildOn}
 use Rattle.meaning.specs.WellFormed.{literals}
-use Rattle.weigh.specs.Resolving.{becomes}
+use Rattle.resolvents.specs.Resolvent.{becomes}
 use Rattle.meaning.proofs.Basics.{or-false}
-use Rattle.meaning.proofs.Lists.{any-append, any-keep, same-path}
+use Rattle.meaning.proofs.Lists.{any-append, same-path}
 use Rattle.meaning.proofs.Weight.{size}
 use Rattle.table.proofs.PadLaws.{literals-snoc}
 
@@ -29,18 +29,6 @@ unfolding buildOn
 build-next p cs raws k h = rw (add-one, take-suc raws k []) (build-append p cs (take k raws) (getD raws k [] ∷ []))
 
 -- What is there -------------------------------------------------------------------------------------------------------
--- a selection that keeps c keeps every clause equal to it
-pub same-kept : (t : List ℕ → Bool) (c : List ℕ) (cs : List (List ℕ)) → t c ≡ true → anyOf (same c) (keepIf t cs) ≡ anyOf (same c) cs
-same-kept t c cs h = any-keep (same c) t cs ∙ ap (λ (f : List ℕ → Bool). anyOf f cs) (fun-ext (λ d. go d (same c d) refl))
-  where
-    go : (d : List ℕ) (b : Bool) → same c d ≡ b → (t d && b) ≡ b
-    go d true e = rw (← same-path c d e, h)
-    go d false e = none (t d)
-      where
-        none : (b : Bool) → (b && false) ≡ false
-        none true = refl
-        none false = refl
-
 any-add : (c : List ℕ) (cs : List (List ℕ)) (x : Tidied) → anyOf (same c) (addTidied cs x) ≡ (anyOf (same c) cs || becomes c x)
 unfolding addTidied becomes
 any-add c cs dropped = sym (or-false (anyOf (same c) cs))

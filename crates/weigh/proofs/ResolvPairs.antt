@@ -10,7 +10,7 @@ use native.Mathlib.Omega.{arith}
 use native.Mathlib.Nat.{zero-mul, suc-mul, mod-eq-of-lt, div-eq-of-lt, mul-zero, add-div-left, add-mod-left}
 use native.Mathlib.Numerals.{add-one}
 use Rattle.rules.specs.Eliminate.{resolventsOf, resolvents}
-use Rattle.weigh.specs.Resolving.{resolvent}
+use Rattle.resolvents.specs.Resolvent.{resolvent}
 use Rattle.meaning.proofs.Basics.{by-cases}
 use Rattle.table.proofs.ListLaws.{getD-skip}
 

@@ -14,8 +14,8 @@ use Rattle.meaning.specs.WellFormed.{bound, tidyClause, distinct, wellFormed, w
 use Rattle.rules.specs.Eliminate.{withLit, withoutVar, resolveRaw}
 use Rattle.rules.specs.Entry.{resolve}
 use Rattle.rules.specs.Step.{rawOf, resultOf}
-use Rattle.weigh.specs.Resolving.{restOf, stayOf, rawResolvents, pairs, resolvedTo, resolvent}
-use Rattle.weigh.specs.Resolving.{positiveAt, negativeAt, resolventAt, becomes, cameBefore}
+use Rattle.resolvents.specs.Resolvent.{resolvent, becomes}
+use Rattle.weigh.specs.Resolving.{restOf, stayOf, rawResolvents, pairs, resolvedTo, positiveAt, negativeAt, resolventAt, cameBefore}
 use Rattle.meaning.proofs.Basics.{clash, false-of, and-l, and-r, and-i, not-true}
 use Rattle.meaning.proofs.Lists.{all-append, all-all, all-le, all-kept, all-keep-le, any-keep-le, any-ascending}
 use Rattle.meaning.proofs.Parts.{good-of, tidy-of, distinct-of, ascends-of, reduced-of}
@@ -26,7 +26,8 @@ use Rattle.rules.proofs.Good.{good-drop}
 use Rattle.rules.proofs.Expand.{bound-not}
 use Rattle.rules.proofs.Raws.{resolve-ok}
 use Rattle.table.proofs.LoopLaws.{all-getD}
-use Rattle.weigh.proofs.ResolvBuild.{build-append, build-next, any-built, build-grows, same-kept}
+use Rattle.sides.proofs.SideLaws.{same-kept}
+use Rattle.weigh.proofs.ResolvBuild.{build-append, build-next, any-built, build-grows}
 use Rattle.weigh.proofs.ResolvPairs.{pair-at}
 
 -- The clauses that stay ------------------------------------------------------------------------------------------------

@@ -14,14 +14,15 @@ use Rattle.meaning.specs.Formula.{Formula, plain, negated}
 use Rattle.meaning.specs.Tidy.{tidy}
 use Rattle.meaning.specs.WellFormed.{wellFormed, bound}
 use Rattle.rules.specs.Eliminate.{withLit, resolventsOf, resolvents}
-use Rattle.weigh.specs.Resolving.{restOf, resolvent, becomes, fitsIn, rawResolvents, pairs, anyGives, rowGives, cameBefore}
+use Rattle.resolvents.specs.Resolvent.{resolvent, becomes, fitsIn}
+use Rattle.weigh.specs.Resolving.{restOf, rawResolvents, anyGives, rowGives, cameBefore}
 use Rattle.meaning.proofs.Basics.{and-l, and-r}
 use Rattle.meaning.proofs.Lists.{any-append, any-agree, all-append}
 use Rattle.meaning.proofs.TidyPrefix.{tidy-drop}
 use Rattle.table.proofs.LoopLaws.{any-found, any-turn, any-end}
 use Rattle.weigh.proofs.ResolvPairs.{one-length}
 use Rattle.weigh.proofs.ResolvResult.{raws-bound, raw-free}
-use Rattle.weigh.proofs.ResolvFits.{not-fits}
+use Rattle.resolvents.proofs.ResolvFits.{not-fits}
 
 -- A row ------------------------------------------------------------------------------------------------------------------------
 one-take : (a : ℕ) (x : List ℕ) (ys : List (List ℕ)) (m : ℕ) → take m (resolventsOf a x ys) ≡ resolventsOf a x (take m ys)

@@ -25,7 +25,8 @@ use Rattle.table.specs.declared.Counts.{Counts}
 use Rattle.growth.specs.Weights.{weighed, weighedStep}
 use Rattle.growth.specs.declared.Weighed.{Weighed}
 use Rattle.growth.specs.declared.Weighed.the-variants.{Over}
-use Rattle.weigh.specs.Resolving.{restOf, stayOf, resolvedTo, Filed, Bounded, FirstUniversal}
+use Rattle.sides.specs.Sides.{Filed}
+use Rattle.weigh.specs.Resolving.{restOf, stayOf, resolvedTo, Bounded, FirstUniversal}
 use Rattle.meaning.proofs.Basics.{by-cases, clash}
 use Rattle.meaning.proofs.Lists.{all-keep-le}
 use Rattle.meaning.proofs.Parts.{good-of, room-of}
@@ -34,7 +35,7 @@ use Rattle.rules.proofs.Permitted.{resolve-says}
 use Rattle.rules.proofs.Place.{place}
 use Rattle.table.proofs.HoldLaws.{holds-bounds, count-variables, count-clauses, count-literals}
 use Rattle.weigh.proofs.ResolvResult.{resolved-grows}
-use Rattle.weigh.proofs.ResolvSides.{stay-clauses, stay-literals}
+use Rattle.weigh.proofs.ResolvStay.{stay-clauses, stay-literals}
 
 -- The condition, by its two sides ------------------------------------------------------------------------------------------
 module _ (φ : Formula) (a n : ℕ) (p : Bool) where

@@ -2,28 +2,18 @@
 -- Assumes nothing.
 use mathlib.Core.Path.{_≡_}
 use Prim.Native.Nat.{ℕ, _+_, _*_, _/_, _%_, _≤_, _<_}
-use mathlib.Core.Bool.{Bool, true, false, _||_, cond}
-use mathlib.Core.List.{List, [], _∷_, _++_}
-use lib.Dec.{eqb, ltb}
+use mathlib.Core.Bool.{Bool, true}
+use mathlib.Core.List.{List, []}
 use lib.ListN.{length, getD, take, drop}
-use Rattle.meaning.specs.Lists.{allOf, anyOf, has, same, without}
-use Rattle.meaning.specs.Formula.{Formula, var, plain, negated, mentions, dropVar, universal, rightOf}
+use Rattle.meaning.specs.Lists.{anyOf}
+use Rattle.meaning.specs.Formula.{Formula, plain, negated, mentions, dropVar, rightOf}
 use Rattle.meaning.specs.WellFormed.{weight}
-use Rattle.meaning.specs.Tidy.{Tidied, dropped, kept, tidy, buildOn}
+use Rattle.meaning.specs.Tidy.{Tidied, tidy, buildOn}
 use Rattle.rules.specs.Eliminate.{withLit, withoutVar, resolvents, fromUniversal}
-use Rattle.table.specs.Table.{Holds, countsOf}
+use Rattle.table.specs.Table.{countsOf}
 use Rattle.table.specs.declared.Counts.{Counts}
-use Rattle.index.specs.Index.{Indexes}
+use Rattle.resolvents.specs.Resolvent.{resolvent, becomes}
 use Rattle.weigh.specs.declared.pairing.Pair.{Pair}
-
--- A formula in its table, and its index -----------------------------------------------------------------------------
-pub record Filed (φ : Formula) (t : List ℕ) (c : Counts) (index : List ℕ) : Type 0 where
-  pub holds : Holds φ t c
-  pub indexes : Indexes φ index
-
-pub record File (t : List ℕ) (c : Counts) (index : List ℕ) : Type 0 where
-  pub formula : Formula
-  pub filed : Filed formula t c index
 
 -- The prefix that is left, and the clauses that stay -----------------------------------------------------------------
 abbrev pub restOf : Formula → ℕ → List ℕ
@@ -31,16 +21,6 @@ restOf φ a = dropVar a (φ .prefix)
 
 abbrev pub stayOf : Formula → ℕ → List (List ℕ)
 stayOf φ a = withoutVar a (φ .clauses)
-
--- The literal by which a clause is looked for ---------------------------------------------------------------------------
--- of two literals the one in fewer clauses; the first, where they are in as many
-unfoldable pub rarer : List (List ℕ) → ℕ → ℕ → ℕ
-rarer cs l k = cond (ltb (length (withLit k cs)) (length (withLit l cs))) k l
-
--- of l and the literals of c
-unfoldable pub rarestOf : List (List ℕ) → ℕ → List ℕ → ℕ
-rarestOf cs l [] = l
-rarestOf cs l (k ∷ c) = rarestOf cs (rarer cs l k) c
 
 -- n entries stand left of the first universal right of a; where there is none, n are all or more
 abbrev pub FirstUniversal : Formula → ℕ → ℕ → Type 0
@@ -53,22 +33,6 @@ positiveAt φ a k = getD (withLit (plain a) (φ .clauses)) (k / length (withLit 
 
 unfoldable pub negativeAt : Formula → ℕ → ℕ → List ℕ
 negativeAt φ a k = getD (withLit (negated a) (φ .clauses)) (k % length (withLit (negated a) (φ .clauses))) []
-
--- the resolvent of two clauses, raw
-unfoldable pub resolvent : ℕ → List ℕ → List ℕ → List ℕ
-resolvent a x y = without (plain a) x ++ without (negated a) y
-
--- every literal of the clause c is in one of the two
-unfoldable pub covers : List ℕ → List ℕ → List ℕ → Bool
-covers x y c = allOf (λ l. has l x || has l y) c
-
--- The literal l of a clause, of which the variable with the literal out is resolved, is in what tidying leaves of the resolvent, c:
--- tidying takes away universals only
-unfoldable pub staysIn : List ℕ → List ℕ → ℕ → ℕ → Bool
-staysIn p c out l = eqb l out || (has l c || universal p (var l))
-
-unfoldable pub fitsIn : List ℕ → List ℕ → ℕ → List ℕ → Bool
-fitsIn p c out x = allOf (staysIn p c out) x
 
 -- what becomes of pair k
 unfoldable pub resolventAt : Formula → ℕ → ℕ → Tidied
@@ -95,11 +59,6 @@ pub record PairOf (φ : Formula) (a : ℕ) (p : Pair) : Type 0 where
 unfoldable pub resolvedTo : Formula → ℕ → ℕ → Formula
 resolvedTo φ a k =
     record { prefix = restOf φ a; clauses = buildOn (restOf φ a) (stayOf φ a) (take k (rawResolvents φ a)) }
-
--- what was tidied is the clause c
-unfoldable pub becomes : List ℕ → Tidied → Bool
-becomes c dropped = false
-becomes c (kept d) = same c d
 
 -- one of the first k resolvents is the clause c
 unfoldable pub cameBefore : Formula → ℕ → ℕ → List ℕ → Bool

@@ -1,10 +1,7 @@
 // What the result of step 6 would weigh, without building it.
 mod counts;
-mod earlier;
 mod pairing;
-mod resolvents;
 mod resolving;
-mod sides;
 
 pub use counts::weight_of;
 pub use resolving::may_resolve;

@@ -12,19 +12,20 @@ ghost use Rattle.rules.specs.Step.{resultOf};
 ghost use Rattle.table.specs.Table.{countsOf};
 ghost use Rattle.index.specs.Study.{Studied, Study};
 ghost use Rattle.growth.specs.Weights.{weighed, weighedStep, Summable};
-ghost use Rattle.weigh.specs.Resolving.{Filed, File, resolvedTo, Bounded, CountedTo, FirstUniversal};
+ghost use Rattle.sides.specs.Sides.{Filed, File};
+ghost use Rattle.weigh.specs.Resolving.{resolvedTo, Bounded, CountedTo, FirstUniversal};
 use crate::counts::weight_of;
 use crate::pairing::add_pair;
 use crate::pairing::first_pair;
 use crate::pairing::next_pair;
 use crate::pairing::pair_count;
-use crate::sides::count_with;
-use crate::sides::side_near;
-use crate::sides::side_size;
 use growth::Weighed;
 use permits::first_universal;
 use permits::is_existential;
 use permits::place_of;
+use sides::count_with;
+use sides::side_near;
+use sides::side_size;
 use table::Counts;
 
 // A weight that no result reaches: 2,047 clauses with a literal and 2,047 with its opposite have fewer resolvents.

@@ -11,8 +11,9 @@ use Rattle.permits.proofs.PlaceLaws.{entries-of}
 use Rattle.rules.specs.Eliminate.{withLit}
 use Rattle.index.specs.Study.{Studied}
 use Rattle.index.proofs.ReadLaws.{studied-indexes}
-use Rattle.weigh.specs.Resolving.{resolvent, becomes, anyGives}
-use Rattle.weigh.proofs.ResolvFile.{filed-of, file-of, study-ranks, side-ordered}
+use Rattle.resolvents.specs.Resolvent.{resolvent, becomes}
+use Rattle.weigh.specs.Resolving.{anyGives}
+use Rattle.sides.proofs.FileLaws.{filed-of, file-of, study-ranks, side-ordered}
 use Rattle.weigh.proofs.ResolvRows.{partner-found, partner-turn, partner-end}
 use borrow.Author.Needs.{needs}
 use Rattle.weigh.proofs.pairing.any_gives.Statement.{statement}

@@ -8,7 +8,8 @@ use Rattle.meaning.specs.Formula.{Formula, plain, negated}
 use Rattle.index.specs.Study.{Studied}
 use Rattle.index.proofs.ReadLaws.{studied-indexes, study-indexed}
 use Rattle.weigh.specs.Resolving.{cameBefore}
-use Rattle.weigh.proofs.ResolvFile.{filed-of, file-of, side-ordered, listed-few, pair-whole, positive-there, negative-there}
+use Rattle.sides.proofs.FileLaws.{filed-of, file-of, side-ordered, listed-few}
+use Rattle.weigh.proofs.ResolvFile.{pair-whole, positive-there, negative-there}
 use Rattle.weigh.proofs.ResolvRows.{rowsFrom, rows-start, rows-found, rows-turn, rows-end, row-some}
 use borrow.Author.Needs.{needs}
 use Rattle.weigh.proofs.pairing.came_before.Statement.{statement}

@@ -4,9 +4,10 @@ use mathlib.Core.Path.{refl}
 use native.Mathlib.Omega.{arith}
 use Rattle.table.proofs.HoldLaws.{count-clauses}
 use Rattle.index.proofs.ReadLaws.{studied-indexes, study-indexed}
-use Rattle.weigh.proofs.ResolvFile.{listed-there, positive-there, negative-there}
-use Rattle.weigh.proofs.ListedLaws.{listed-low}
-use Rattle.weigh.proofs.EarlierLaws.{came-told}
+use Rattle.sides.proofs.FileLaws.{listed-there}
+use Rattle.weigh.proofs.ResolvFile.{positive-there, negative-there}
+use Rattle.earlier.proofs.ListedLaws.{listed-low}
+use Rattle.weigh.proofs.CameLaws.{came-told}
 use borrow.Author.Needs.{needs}
 use Rattle.weigh.proofs.pairing.is_earlier.Statement.{statement}
 use Rattle.weigh.proofs.pairing.is_earlier.Tie as tie

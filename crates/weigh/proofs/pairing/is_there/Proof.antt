@@ -1,6 +1,6 @@
 -- In the formula, or one of the resolvents before.
 -- Assumes nothing.
-use Rattle.weigh.proofs.ResolvFile.{filed-of, file-of}
+use Rattle.sides.proofs.FileLaws.{filed-of, file-of}
 use Rattle.weigh.proofs.ResolvResult.{there-first, there-later}
 use borrow.Author.Needs.{needs}
 use Rattle.weigh.proofs.pairing.is_there.Statement.{statement}

@@ -3,7 +3,8 @@
 use mathlib.Core.Path.{_∙_}
 use Rattle.meaning.proofs.Parts.{good-of}
 use Rattle.index.proofs.ReadLaws.{studied-indexes}
-use Rattle.weigh.proofs.ResolvFile.{filed-of, file-of, study-ranks, side-ordered, positive-there, negative-there, positive-is, negative-is}
+use Rattle.sides.proofs.FileLaws.{filed-of, file-of, study-ranks, side-ordered}
+use Rattle.weigh.proofs.ResolvFile.{positive-there, negative-there, positive-is, negative-is}
 use Rattle.weigh.proofs.ResolvResult.{pair-made}
 use borrow.Author.Needs.{needs}
 use Rattle.weigh.proofs.pairing.resolvent_at.Statement.{statement}

@@ -3,7 +3,7 @@
 use Rattle.meaning.specs.Formula.{plain}
 use Rattle.permits.proofs.PlaceLaws.{entries-of}
 use Rattle.index.proofs.ReadLaws.{studied-indexes}
-use Rattle.weigh.proofs.ResolvFile.{filed-of, file-of, study-ranks, side-ordered}
+use Rattle.sides.proofs.FileLaws.{filed-of, file-of, study-ranks, side-ordered}
 use Rattle.weigh.proofs.ResolvRows.{row-some, row-none}
 use borrow.Author.Needs.{needs}
 use Rattle.weigh.proofs.pairing.row_gives.Statement.{statement}

@@ -9,7 +9,8 @@ use Rattle.table.specs.Table.{countsOf}
 use Rattle.index.specs.Study.{Studied}
 use Rattle.index.proofs.ReadLaws.{studied-indexes, study-indexed}
 use Rattle.weigh.specs.Resolving.{resolvedTo, Bounded, Placed}
-use Rattle.weigh.proofs.ResolvFile.{pairs-few, pair-of, some-pairs, positive-there, listed-few}
+use Rattle.sides.proofs.FileLaws.{listed-few}
+use Rattle.weigh.proofs.ResolvFile.{pairs-few, pair-of, some-pairs, positive-there}
 use Rattle.weigh.proofs.ResolvWeigh.{bounded-sums, counted-early, counted-all}
 use borrow.Author.Needs.{needs}
 use Rattle.weigh.proofs.resolving.count_pairs.Statement.{statement}

@@ -6,7 +6,7 @@ use lib.ListN.{take}
 use lib.Seq.{length-take-le}
 use Rattle.table.proofs.HoldLaws.{holds-bounds, prefix-is}
 use Rattle.permits.proofs.PlaceLaws.{entries-of}
-use Rattle.weigh.proofs.ResolvFile.{study-ranks}
+use Rattle.sides.proofs.FileLaws.{study-ranks}
 use Rattle.weigh.proofs.ResolvStart.{first-at}
 use borrow.Author.Needs.{needs}
 use Rattle.weigh.proofs.resolving.may_resolve.Statement.{statement}

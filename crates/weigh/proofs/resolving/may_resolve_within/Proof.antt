@@ -7,7 +7,7 @@ use Rattle.permits.specs.Places.{placeOf}
 use Rattle.permits.proofs.AndLaws.{and-none}
 use Rattle.permits.proofs.PlaceLaws.{entries-of}
 use Rattle.permits.proofs.SideLaws.{resolve-is, resolve-large}
-use Rattle.weigh.proofs.ResolvFile.{study-ranks}
+use Rattle.sides.proofs.FileLaws.{study-ranks}
 use Rattle.weigh.proofs.ResolvStart.{sides-second, sides-none, first-there}
 use borrow.Author.Needs.{needs}
 use Rattle.weigh.proofs.resolving.may_resolve_within.Statement.{statement}

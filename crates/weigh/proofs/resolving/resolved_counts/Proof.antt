@@ -1,7 +1,7 @@
 -- With a bound that is not reached the counts are those of all pairs.
 -- Assumes nothing.
 use native.Mathlib.Omega.{arith}
-use Rattle.weigh.proofs.ResolvFile.{filed-of, file-of}
+use Rattle.sides.proofs.FileLaws.{filed-of, file-of}
 use Rattle.weigh.proofs.ResolvWeigh.{counted-whole}
 use Rattle.weigh.proofs.ResolvStart.{some-variables, permitted-there, permitted-small}
 use borrow.Author.Needs.{needs}

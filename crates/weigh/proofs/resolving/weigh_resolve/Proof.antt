@@ -1,7 +1,7 @@
 -- No existential, or what is left is too heavy already, or not permitted; else counted pair by pair.
 -- Assumes nothing.
 use Rattle.permits.proofs.PlaceLaws.{entries-of}
-use Rattle.weigh.proofs.ResolvFile.{filed-of, file-of, study-ranks}
+use Rattle.sides.proofs.FileLaws.{filed-of, file-of, study-ranks}
 use Rattle.weigh.proofs.ResolvWeigh.{weighed-whole, bounded-sums}
 use Rattle.weigh.proofs.ResolvStart.{some-variables, existing-there, existing-small, rest-small, step-other, step-floor, step-none, step-some}
 use native.Mathlib.Omega.{arith}

@@ -1,0 +1,4 @@
+pub mod AnyLaws
+pub mod ListedLaws
+pub mod TriesLaws
+pub mod EarlierLaws

@@ -1,0 +1,2 @@
+pub mod ResolvPending
+pub mod ResolvFits
