@@ -26,6 +26,7 @@ use table::tidy_in;
 // Whether the hint is right: it is the number of a clause, and that clause equals this one.
 fn is_right(t: &[u16], c: Counts, clause: &[u16], hint: usize) -> bool
     requires { ⌜ Held (now t) c ⌝ }
+    ensures { λ r. ⌜ (r ≡ true → hint < c .clauses) ⌝ }
     ensures { λ r. ⌜ ((φ : Formula) → Holds φ (now (t .entry)) c → r ≡ true → anyOf (same (now (clause .entry))) (φ .clauses) ≡ true) ⌝ }
 {
     if hint < c.clauses {
@@ -60,6 +61,8 @@ fn add_hinted(t: &mut [u16], c: Counts, scratch: &mut [u16], m: usize) -> Pushed
     }
     let second = scratch[at + 1] as usize;
     if is_right(t, c, &scratch[..m], second) {
+        // It is asked for first the next time.
+        remember(scratch, m, at, second);
         return Pushed::Done(c);
     }
     let k = first_equal(t, c, &scratch[..m], c.clauses);

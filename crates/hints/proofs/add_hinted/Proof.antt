@@ -53,7 +53,7 @@ same-length-2 : tie.Need-same-length-2
 same-length-2 c = search needs
 
 returns : tie.Need-returns
-returns c = λ φ h. add-there h _ (c .before .is-right .ensures φ h (c .if1 .taken))
+returns c = λ φ h. add-there h _ (c .before .is-right .ensures .1 φ h (c .if1 .taken))
 
 add-second : tie.Need-add-second
 add-second c = search needs
@@ -78,6 +78,14 @@ slice-aggregate-is-right-2 c =
 is-right-requires-2 : tie.Need-is-right-requires-2
 is-right-requires-2 c κs = search needs
 
+remember-requires : tie.Need-remember-requires
+remember-requires c κs =
+    let t = c .before in
+    let r = t .before in
+    let s = r .before .before .before .before .before .before .before .before .before .before .before .before .before in
+    let b = bounds (s .pre .0) in
+    (omega (arith, s .pre .1 .0), omega (arith, r .is-right2 .ensures .0 (t .if2 .taken)))
+
 same-length-3 : tie.Need-same-length-3
 same-length-3 c = search needs
 
@@ -85,7 +93,9 @@ same-length-4 : tie.Need-same-length-4
 same-length-4 c = search needs
 
 returns-2 : tie.Need-returns-2
-returns-2 c = λ φ h. add-there h _ (c .before .is-right2 .ensures φ h (c .if2 .taken))
+returns-2 c =
+    let t = c .before .before .before .before in
+    λ φ h. add-there h _ (t .before .is-right2 .ensures .1 φ h (t .if2 .taken))
 
 slice-reshare-prefix-first-equal : tie.Need-slice-reshare-prefix-first-equal
 slice-reshare-prefix-first-equal c = search needs
@@ -98,8 +108,8 @@ slice-aggregate-first-equal c =
 first-equal-requires : tie.Need-first-equal-requires
 first-equal-requires c κs = search needs
 
-remember-requires : tie.Need-remember-requires
-remember-requires c κs =
+remember-requires-2 : tie.Need-remember-requires-2
+remember-requires-2 c κs =
     let e = c .before in
     let s = e .before .before .before .before .before .before .before .before .before .before .before .before .before .before .before .before .before in
     let b = bounds (s .pre .0) in
@@ -123,7 +133,7 @@ slice-aggregate-push-clause : tie.Need-slice-aggregate-push-clause
 slice-aggregate-push-clause c =
     let r = c .before .before .before .before .before .before in
     let s = r .before .before .before .before .before .before .before .before .before .before .before .before .before .before .before .before .before .before .before in
-    sym (length-take-le _ _ (omega (arith, r .remember .kept .0, s .pre .1 .0, s .pre .1 .1)))
+    sym (length-take-le _ _ (omega (arith, r .remember2 .kept .0, s .pre .1 .0, s .pre .1 .1)))
 
 push-clause-requires : tie.Need-push-clause-requires
 push-clause-requires c κs = search needs
@@ -140,7 +150,7 @@ returns-4 c =
     let n = p .before .before .before in
     let r = n .before .before .before .before in
     let e = r .before .before in
-    λ φ h. add-new h _ _ _ (sym (e .first-equal .ensures .1 φ h ∙ ap (anyOf (same _)) (clauses-all h)) ∙ le-ltb _ _ (n .if3 .left)) (rw (r .remember .ensures) at (p .push-clause .ensures φ h))
+    λ φ h. add-new h _ _ _ (sym (e .first-equal .ensures .1 φ h ∙ ap (anyOf (same _)) (clauses-all h)) ∙ le-ltb _ _ (n .if3 .left)) (rw (r .remember2 .ensures) at (p .push-clause .ensures φ h))
 
 pub add-hinted-spec : {M : Type 1} → statement M
 add-hinted-spec =
@@ -166,13 +176,14 @@ add-hinted-spec =
     slice-reshare-prefix-is-right-2
     slice-aggregate-is-right-2
     is-right-requires-2
+    remember-requires
     same-length-3
     same-length-4
     returns-2
     slice-reshare-prefix-first-equal
     slice-aggregate-first-equal
     first-equal-requires
-    remember-requires
+    remember-requires-2
     same-length-5
     same-length-6
     returns-3

@@ -21,10 +21,10 @@ returns : tie.Need-returns
 returns c =
     let k = c .before in
     let s = k .before .before .before .before .before in
-    λ φ h e. any-at (same _) [] (φ .clauses) (s .args .hint) (omega (arith, count-clauses h, k .before .if1 .taken)) (ap (same _) (sym (k .clause-at .ensures φ h)) ∙ sym (c .equal .ensures) ∙ e)
+    (λ e. k .before .if1 .taken, λ φ h e. any-at (same _) [] (φ .clauses) (s .args .hint) (omega (arith, count-clauses h, k .before .if1 .taken)) (ap (same _) (sym (k .clause-at .ensures φ h)) ∙ sym (c .equal .ensures) ∙ e))
 
 returns-2 : tie.Need-returns-2
-returns-2 c = λ φ h e. clash e refl
+returns-2 c = (λ e. clash e refl, λ φ h e. clash e refl)
 
 pub is-right-spec : {M : Type 1} → statement M
 is-right-spec = tie.close (tie.spec clause-at-requires equal-requires returns returns-2)
