@@ -1,7 +1,7 @@
 // Numbers put into the output as bytes, the least significant first.
 ghost use Prim.Native.Nat.{_≤_};
 ghost use lib.ListN.{length};
-use shows::low_byte;
+use shows::low;
 use shows::put;
 
 // So many bytes of a number; the place after them.
@@ -13,7 +13,7 @@ pub fn put_number(out: &mut [u8], at: usize, n: u64, size: usize) -> usize
     let mut rest = n;
     let mut i = 0;
     while i < size {
-        e = put(out, e, low_byte(rest));
+        e = put(out, e, low(rest));
         rest /= 256;
         i += 1;
     }

@@ -17,7 +17,7 @@ fn put_numbers(out: &mut [u8], at: usize, t: &[u16], n: usize) -> usize
     }
     let mut i = 0;
     while i < n {
-        out[at + 2 * i] = low(t[i]);
+        out[at + 2 * i] = low(t[i] as u64);
         out[at + 2 * i + 1] = high(t[i]);
         i += 1;
     }

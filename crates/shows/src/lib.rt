@@ -7,7 +7,6 @@ mod texts;
 
 pub use numbers::high;
 pub use numbers::low;
-pub use numbers::low_byte;
 pub use numbers::pair;
 pub use numbers::take_long;
 pub use numbers::take_word;

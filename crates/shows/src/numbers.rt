@@ -38,13 +38,7 @@ pub fn take_long(b: &[u8], at: usize) -> u64
     long(take_word(b, at), take_word(b, at + 4))
 }
 
-pub fn low_byte(n: u64) -> u8
-    ensures { λ r. ⌜ r ≡ n % 256 ⌝ }
-{
-    (n % 256) as u8
-}
-
-pub fn low(n: u16) -> u8
+pub fn low(n: u64) -> u8
     ensures { λ r. ⌜ r ≡ n % 256 ⌝ }
 {
     (n % 256) as u8

@@ -17,8 +17,8 @@ abbrev μ-loop : tie.MeasureT-loop
 loop-holds : tie.Need-loop-holds Inv-loop μ-loop
 loop-holds c = search needs
 
-low-byte-requires : tie.Need-low-byte-requires Inv-loop μ-loop
-low-byte-requires c κs = search needs
+low-requires : tie.Need-low-requires Inv-loop μ-loop
+low-requires c κs = search needs
 
 put-requires : tie.Need-put-requires Inv-loop μ-loop
 put-requires c κs = search needs
@@ -45,7 +45,7 @@ put-number-spec =
     Inv-loop
     μ-loop
     loop-holds
-    low-byte-requires
+    low-requires
     put-requires
     add-i
     loop-less

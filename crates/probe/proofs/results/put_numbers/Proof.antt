@@ -29,6 +29,9 @@ mul-low c = search needs
 shared-slice-read-low : tie.Need-shared-slice-read-low Inv-loop μ-loop
 shared-slice-read-low c = search needs
 
+cast-low : tie.Need-cast-low Inv-loop μ-loop
+cast-low c = omega (arith, c .shared-slice-known2 .given (c .before .before .loop .i))
+
 low-requires : tie.Need-low-requires Inv-loop μ-loop
 low-requires c κs = search needs
 
@@ -94,6 +97,7 @@ put-numbers-spec =
     loop-holds
     mul-low
     shared-slice-read-low
+    cast-low
     low-requires
     mul-out
     add-out
