@@ -1,7 +1,11 @@
 // What a call brings: its numbers, and the two tables and the bytes that it lends.
+ghost use Prim.Native.Nat.{_≤_};
 ghost use mathlib.Core.Path.{_≡_};
-ghost use lib.ListN.{getD};
+ghost use mathlib.Core.Bool.{true};
+ghost use lib.Dec.{eqb};
+ghost use lib.ListN.{length, getD, drop};
 ghost use Rattle.shows.specs.Numbers.{numberAt};
+ghost use Rattle.probe.specs.Taken.{Taken};
 use rimhlada::Counts;
 use shows::fill;
 use shows::take_long;
@@ -21,6 +25,7 @@ pub struct Head {
 pub fn head_of(h: &[u8; 50]) -> Head
     ensures { λ r. ⌜ (r .operation ≡ getD (now (h .entry)) 0 0) × (r .side ≡ getD (now (h .entry)) 1 0) ⌝ }
     ensures { λ r. ⌜ (r .counts .variables ≡ numberAt (now (h .entry)) 2 8) × (r .counts .clauses ≡ numberAt (now (h .entry)) 10 8) × (r .counts .literals ≡ numberAt (now (h .entry)) 18 8) ⌝ }
+    ensures { λ r. ⌜ r .counts .second ≡ eqb (getD (now (h .entry)) 1 0) 1 ⌝ }
     ensures { λ r. ⌜ (r .a ≡ numberAt (now (h .entry)) 26 8) × (r .b ≡ numberAt (now (h .entry)) 34 8) ⌝ }
     ensures { λ r. ⌜ (r .size ≡ numberAt (now (h .entry)) 42 4) × (r .used ≡ numberAt (now (h .entry)) 46 4) ⌝ }
 {
@@ -43,8 +48,10 @@ pub fn head_of(h: &[u8; 50]) -> Head
     }
 }
 
-// Reads so many bytes.
-pub fn take_bytes(bytes: &mut [u8], n: usize) -> bool {
+// Reads so many bytes; those behind them stay. False where there is no room for them or the input ends.
+pub fn take_bytes(bytes: &mut [u8], n: usize) -> bool
+    ensures { λ r. ⌜ (r ≡ true → n ≤ length (now (bytes .entry))) × (drop n (now (bytes .exit)) ≡ drop n (now (bytes .entry))) ⌝ }
+{
     if bytes.len() < n {
         return false;
     }
@@ -52,7 +59,9 @@ pub fn take_bytes(bytes: &mut [u8], n: usize) -> bool {
 }
 
 // Reads a table's numbers, and so many bytes after them. False where the lengths are too large or the input ends.
-pub fn take_table(t: &mut [u16], raw: &mut [u8], size: usize, used: usize, more: usize) -> bool {
+pub fn take_table(t: &mut [u16], raw: &mut [u8], size: usize, used: usize, more: usize) -> bool
+    ensures { λ r. ⌜ (r ≡ true → Taken (now (t .exit)) (now (raw .exit)) size used more) ⌝ }
+{
     if t.len() < size {
         return false;
     }

@@ -2,7 +2,7 @@
 ghost use Prim.Native.Nat.{ℕ, _+_, _*_, _≤_, _<_};
 ghost use mathlib.Core.Path.{_≡_};
 ghost use lib.ListN.{length, getD};
-ghost use Rattle.shows.specs.Numbers.{numberAt, EntryOf};
+ghost use Rattle.shows.specs.Numbers.{numberAt, EntryOf, Filled};
 use crate::numbers::pair;
 use crate::numbers::take_word;
 
@@ -50,7 +50,7 @@ fn entry_of(bytes: &[u8], given: usize, k: usize) -> u16
 // A table's first numbers, from bytes: those that are given, then zeros.
 pub fn fill(t: &mut [u16], size: usize, bytes: &[u8], given: usize)
     requires { ⌜ (size ≤ length (now t)) × (2 * given ≤ length (now bytes)) ⌝ }
-    ensures { λ _. ⌜ ((k : ℕ) → k < size → EntryOf (now (bytes .entry)) given k (getD (now (t .exit)) k 0)) ⌝ }
+    ensures { λ _. ⌜ Filled (now (bytes .entry)) given size (now (t .exit)) ⌝ }
 {
     let mut i = 0;
     while i < size {
