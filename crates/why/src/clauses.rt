@@ -1,4 +1,6 @@
 // The text of a clause.
+ghost use mathlib.Core.Path.{_≡_};
+ghost use Rattle.why.specs.Places.{startIn};
 use rimhlada::Counts;
 use shows::say;
 
@@ -31,12 +33,16 @@ fn show_between(literals: &[u16], start: usize, end: usize) {
 }
 
 // A number of a table, as a place.
-pub fn wide(x: u16) -> usize {
+pub fn wide(x: u16) -> usize
+    ensures { λ r. ⌜ r ≡ x ⌝ }
+{
     x as usize
 }
 
 // How many literals stand before clause i.
-fn start_of(t: &[u16; 11261], i: usize) -> usize {
+fn start_of(t: &[u16; 11261], i: usize) -> usize
+    ensures { λ r. ⌜ r ≡ startIn (now (t .entry)) i ⌝ }
+{
     if i == 0 {
         return 0;
     }

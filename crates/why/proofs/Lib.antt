@@ -1,0 +1,2 @@
+pub mod ArgumentLaws
+pub mod PlaceLaws
