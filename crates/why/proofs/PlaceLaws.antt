@@ -12,7 +12,7 @@ use lib.Seq.{getD-take, getD-drop}
 use Rattle.meaning.specs.Lists.{has}
 use Rattle.meaning.specs.Formula.{universal}
 use Rattle.meaning.proofs.Basics.{by-cases, iff, eqb-true, eqb-eq, eqb-ne, eqb-false}
-use Rattle.table.specs.Check.{named}
+use Rattle.table.specs.Lent.{named}
 use Rattle.table.specs.declared.Counts.{Counts}
 use Rattle.table.proofs.TestLaws.{has-found, has-turn, has-end}
 use Rattle.why.specs.Places.{prefixPart, prefixCounted, startIn}

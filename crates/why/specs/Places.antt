@@ -5,7 +5,7 @@ use mathlib.Core.List.{List, _∷_}
 use lib.ListN.{getD, take, drop}
 use Rattle.meaning.specs.WellFormed.{maxVariables, maxClauses}
 use Rattle.table.specs.Table.{endsAt}
-use Rattle.table.specs.Check.{named}
+use Rattle.table.specs.Lent.{named}
 use Rattle.table.specs.declared.Counts.{Counts}
 
 -- the prefix's part of the table that the record names, and as much of it as the record counts
