@@ -4,28 +4,19 @@ use Rattle.shows.proofs.NumberLaws.{long-of}
 use borrow.Author.Needs.{needs}
 use Rattle.shows.proofs.numbers.take_long.Statement.{statement}
 use Rattle.shows.proofs.numbers.take_long.Tie as tie
-use Rattle.shows.proofs.numbers.take_long.Reads as reads
-use Rattle.shows.proofs.numbers.take_long.Lts as lts
-use Rattle.shows.proofs.numbers.long.Reads as long-reads
-use Rattle.shows.proofs.numbers.take_word.Reads as take-word-reads
 
--- src/numbers.rt:38:10
 take-word-requires : tie.Need-take-word-requires
 take-word-requires c κs = search needs
 
--- src/numbers.rt:38:41
 add-take-word : tie.Need-add-take-word
 add-take-word c = search needs
 
--- src/numbers.rt:38:28
 take-word-requires-2 : tie.Need-take-word-requires-2
 take-word-requires-2 c κs = search needs
 
--- src/numbers.rt:38:5
 long-requires : tie.Need-long-requires
 long-requires c κs = search needs
 
--- src/numbers.rt:34:1
 returns : tie.Need-returns
 returns c = long-of _ _ _ _ _ (c .before .before .take-word .ensures) (c .before .take-word2 .ensures) (c .long .ensures)
 

@@ -4,52 +4,37 @@ use Rattle.shows.proofs.NumberLaws.{word-of}
 use borrow.Author.Needs.{needs}
 use Rattle.shows.proofs.numbers.take_word.Statement.{statement}
 use Rattle.shows.proofs.numbers.take_word.Tie as tie
-use Rattle.shows.proofs.numbers.take_word.Reads as reads
-use Rattle.shows.proofs.numbers.take_word.Lts as lts
-use Rattle.shows.proofs.numbers.pair.Reads as pair-reads
-use Rattle.shows.proofs.numbers.word.Reads as word-reads
 
--- src/numbers.rt:30:15
 shared-slice-read-pair : tie.Need-shared-slice-read-pair
 shared-slice-read-pair c = search needs
 
--- src/numbers.rt:30:24
 add-pair : tie.Need-add-pair
 add-pair c = search needs
 
--- src/numbers.rt:30:22
 shared-slice-read-pair-2 : tie.Need-shared-slice-read-pair-2
 shared-slice-read-pair-2 c = search needs
 
--- src/numbers.rt:30:10
 pair-requires : tie.Need-pair-requires
 pair-requires c κs = search needs
 
--- src/numbers.rt:30:41
 add-pair-2 : tie.Need-add-pair-2
 add-pair-2 c = search needs
 
--- src/numbers.rt:30:39
 shared-slice-read-pair-3 : tie.Need-shared-slice-read-pair-3
 shared-slice-read-pair-3 c = search needs
 
--- src/numbers.rt:30:52
 add-pair-3 : tie.Need-add-pair-3
 add-pair-3 c = search needs
 
--- src/numbers.rt:30:50
 shared-slice-read-pair-4 : tie.Need-shared-slice-read-pair-4
 shared-slice-read-pair-4 c = search needs
 
--- src/numbers.rt:30:34
 pair-requires-2 : tie.Need-pair-requires-2
 pair-requires-2 c κs = search needs
 
--- src/numbers.rt:30:5
 word-requires : tie.Need-word-requires
 word-requires c κs = search needs
 
--- src/numbers.rt:26:1
 returns : tie.Need-returns
 returns c = let p = c .before in word-of _ _ _ _ _ (p .before .before .before .pair .ensures) (p .pair2 .ensures) (c .word .ensures)
 

@@ -6,39 +6,28 @@ use Rattle.shows.proofs.NumberLaws.{entry-given}
 use borrow.Author.Needs.{needs}
 use Rattle.shows.proofs.tables.entry_of.Statement.{statement}
 use Rattle.shows.proofs.tables.entry_of.Tie as tie
-use Rattle.shows.proofs.tables.entry_of.Reads as reads
-use Rattle.shows.proofs.tables.entry_of.Lts as lts
-use Rattle.shows.proofs.numbers.pair.Reads as pair-reads
 
--- src/tables.rt:47:27
 mul-pair : tie.Need-mul-pair
 mul-pair c = search needs
 
--- src/tables.rt:47:21
 shared-slice-read-pair : tie.Need-shared-slice-read-pair
 shared-slice-read-pair c = search needs
 
--- src/tables.rt:47:41
 mul-pair-2 : tie.Need-mul-pair-2
 mul-pair-2 c = search needs
 
--- src/tables.rt:47:41
 add-pair : tie.Need-add-pair
 add-pair c = search needs
 
--- src/tables.rt:47:35
 shared-slice-read-pair-2 : tie.Need-shared-slice-read-pair-2
 shared-slice-read-pair-2 c = search needs
 
--- src/tables.rt:47:9
 pair-requires : tie.Need-pair-requires
 pair-requires c κs = search needs
 
--- src/tables.rt:47:9
 returns : tie.Need-returns
 returns c = entry-given _ _ _ _ (c .before .before .before .if1 .taken) (c .pair .ensures)
 
--- src/tables.rt:42:1
 returns-2 : tie.Need-returns-2
 returns-2 c = ((λ l. omega (arith, l, c .if1 .left)), (λ l. refl))
 

@@ -9,9 +9,6 @@ use Rattle.shows.proofs.NumberLaws.{entry-more}
 use borrow.Author.Needs.{needs}
 use Rattle.shows.proofs.tables.fill.Statement.{statement}
 use Rattle.shows.proofs.tables.fill.Tie as tie
-use Rattle.shows.proofs.tables.fill.Reads as reads
-use Rattle.shows.proofs.tables.fill.Lts as lts
-use Rattle.shows.proofs.tables.entry_of.Reads as entry-of-reads
 
 abbrev Inv-loop : tie.InvT-loop
 Inv-loop t₀ size bytes given i₀ t i = (size ≤ length t₀) × (length t ≡ length t₀) × ((k : ℕ) → k < i → EntryOf bytes given k (getD t k 0))
@@ -19,41 +16,32 @@ Inv-loop t₀ size bytes given i₀ t i = (size ≤ length t₀) × (length t �
 abbrev μ-loop : tie.MeasureT-loop
 μ-loop t₀ size bytes given i₀ t i = size - i
 
--- src/tables.rt:58:5
 loop-holds : tie.Need-loop-holds Inv-loop μ-loop
 loop-holds c = search needs
 
--- src/tables.rt:59:16
 entry-of-requires : tie.Need-entry-of-requires Inv-loop μ-loop
 entry-of-requires c κs = search needs
 
--- src/tables.rt:59:9
 mul-t : tie.Need-mul-t Inv-loop μ-loop
 mul-t c = search needs
 
--- src/tables.rt:59:9
 slice-write-t : tie.Need-slice-write-t Inv-loop μ-loop
 slice-write-t c = search needs
 
--- src/tables.rt:60:9
 add-i : tie.Need-add-i Inv-loop μ-loop
 add-i c = search needs
 
--- src/tables.rt:58:5
 loop-less : tie.Need-loop-less Inv-loop μ-loop
 loop-less c = search needs
 
--- src/tables.rt:58:5
 loop-again : tie.Need-loop-again Inv-loop μ-loop
 loop-again c =
     let l = c .before .before in
     (l .loop .inv .0, simp length-set (l .loop .inv .1), entry-more _ (l .loop .t) _ (l .loop .i) _ (omega arith) (l .loop .inv .2) (c .entry-of .ensures))
 
--- src/tables.rt:53:1
 same-length : tie.Need-same-length Inv-loop μ-loop
 same-length c = search needs
 
--- src/tables.rt:53:1
 returns : tie.Need-returns Inv-loop μ-loop
 returns c = λ k h. c .before .loop .inv .2 k (omega (arith, h, c .loop-test .left))
 

@@ -8,8 +8,6 @@ use Rattle.shows.proofs.NumberLaws.{last-counts, zero-more}
 use borrow.Author.Needs.{needs}
 use Rattle.shows.proofs.tables.reach.Statement.{statement}
 use Rattle.shows.proofs.tables.reach.Tie as tie
-use Rattle.shows.proofs.tables.reach.Reads as reads
-use Rattle.shows.proofs.tables.reach.Lts as lts
 
 abbrev Inv-loop : tie.InvT-loop
 Inv-loop t n₀ n = (n ≤ length t) × ((k : ℕ) → n ≤ k → getD t k 0 ≡ 0)
@@ -17,37 +15,29 @@ Inv-loop t n₀ n = (n ≤ length t) × ((k : ℕ) → n ≤ k → getD t k 0 �
 abbrev μ-loop : tie.MeasureT-loop
 μ-loop t n₀ n = n
 
--- src/tables.rt:31:5
 loop-holds : tie.Need-loop-holds Inv-loop μ-loop
 loop-holds c = (omega arith, λ k h. List·getD-eq-default (c .args .t .now) 0 h)
 
--- src/tables.rt:32:17
 sub-k : tie.Need-sub-k Inv-loop μ-loop
 sub-k c = search needs
 
--- src/tables.rt:33:12
 mul-if1 : tie.Need-mul-if1 Inv-loop μ-loop
 mul-if1 c = search needs
 
--- src/tables.rt:33:12
 shared-slice-read-if1 : tie.Need-shared-slice-read-if1 Inv-loop μ-loop
 shared-slice-read-if1 c = search needs
 
--- src/tables.rt:34:13
 returns : tie.Need-returns Inv-loop μ-loop
 returns c = let l = c .before .before .before in (l .loop .inv .0, l .loop .inv .1, last-counts (l .before .args .t .now) _ _ (omega arith) (c .if1 .taken))
 
--- src/tables.rt:31:5
 loop-less : tie.Need-loop-less Inv-loop μ-loop
 loop-less c = search needs
 
--- src/tables.rt:31:5
 loop-again : tie.Need-loop-again Inv-loop μ-loop
 loop-again c =
     let l = c .before .before .before in
     (omega arith, zero-more (l .before .args .t .now) _ _ (l .loop .inv .1) (omega arith) (c .if1 .left))
 
--- src/tables.rt:25:1
 returns-2 : tie.Need-returns-2 Inv-loop μ-loop
 returns-2 c = let l = c .before in (l .loop .inv .0, l .loop .inv .1, λ k e. omega (arith, e, c .loop-test .left))
 

@@ -1,7 +1,6 @@
 -- An odd number is twice its variable and one.
 -- Assumes nothing.
 use Rattle.why.proofs.PlaceLaws.{entry-odd, entry-even}
-use borrow.Author.Needs.{needs}
 use Rattle.why.proofs.prefix.is_universal_number.Statement.{statement}
 use Rattle.why.proofs.prefix.is_universal_number.Tie as tie
 
