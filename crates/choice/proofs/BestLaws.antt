@@ -3,7 +3,7 @@
 use mathlib.Core.Path.{_≡_, refl, sym, _∙_, ap}
 use Prim.Native.Nat.{ℕ, _+_, _<_, _≤_}
 use native.Mathlib.Omega.{arith}
-use mathlib.Core.Bool.{Bool, true, false, _&&_, _||_, not, cond}
+use mathlib.Core.Bool.{Bool, true, false, _&&_, _||_, not, cond, or-true, or-assoc}
 use mathlib.Core.List.{List, [], _∷_}
 use lib.Dec.{ltb, leb}
 use borrow.Author.Tests.{leb-true, leb-false, ltb-true, ltb-false, lt-ltb, le-ltb}
@@ -70,14 +70,6 @@ lightest-on t w best (a ∷ l) = go (t a) (λ b. lightest-on t w b l)
     go : (s : Bool) → ((b : Found) → lightestOn t w b l ≡ merge w b (lightest t w l)) → lightestOn t w (cond s (overtaken w best a) best) l ≡ merge w best (cond s (lighter w a (lightest t w l)) (lightest t w l))
     go true ih = ih (overtaken w best a) ∙ overtaken-lighter w best a (lightest t w l)
     go false ih = ih best
-
-or-true : (b : Bool) → (b || true) ≡ true
-or-true true = refl
-or-true false = refl
-
-or-assoc : (a b c : Bool) → ((a || b) || c) ≡ (a || (b || c))
-or-assoc true b c = refl
-or-assoc false b c = refl
 
 -- The standing of the code ------------------------------------------------------------------------------------
 module _ (E : ℕ) (φ : Formula) (k : Kind) where
