@@ -3,7 +3,7 @@
 use mathlib.Core.Path.{_≡_, refl, sym, _∙_, ap, subst}
 use Prim.Native.Nat.{ℕ, _+_, _<_, _≤_}
 use native.Mathlib.Omega.{arith}
-use mathlib.Core.Bool.{Bool, true, false, _&&_, _||_, not, cond}
+use mathlib.Core.Bool.{Bool, true, false, _&&_, _||_, not}
 use borrow.Author.Tests.{lt-ltb, le-ltb, leb-true, leb-false}
 use Rattle.meaning.specs.Formula.{Formula, mentions, existential, universal}
 use Rattle.meaning.specs.WellFormed.{wellFormed, fits, weight}
