@@ -18,7 +18,7 @@ use Rattle.rules.specs.Eliminate.{withoutVar}
 use Rattle.rules.specs.Entry.{pure, subsume, strengthen, resolve}
 use Rattle.rules.specs.Step.{rawOf, resultOf}
 use Rattle.index.specs.Index.{clausesWith}
-use Rattle.search.specs.Candidates.{someStrengthens}
+use Rattle.walks.specs.Walks.{someStrengthens}
 use Rattle.search.specs.Searched.{Searched, SearchedTo}
 use Rattle.weigh.specs.Resolving.{restOf, stayOf, rawResolvents, pairs, resolvedTo}
 use Rattle.meaning.proofs.Basics.{clash, false-of, and-l, and-r, and-i}

@@ -2,7 +2,7 @@
 -- Assumes nothing.
 use Prim.Native.Nat.{ℕ, suc, _+_, _≤_, _<_}
 use mathlib.Core.Path.{_≡_, refl, sym, ap, _∙_}
-use mathlib.Core.Bool.{Bool, true, false, _||_, not}
+use mathlib.Core.Bool.{Bool, true, false, _||_, not, or-assoc}
 use mathlib.Core.List.{List, [], _++_}
 use lib.Dec.{eqb}
 use lib.ListN.{length, getD, drop, drop-of-length-le}
@@ -11,7 +11,7 @@ use native.Mathlib.Numerals.{add-one}
 use Rattle.meaning.specs.Lists.{anyOf, has, without}
 use Rattle.meaning.specs.Formula.{Formula, opposite}
 use Rattle.meaning.specs.Tidy.{bothPhases, tidy, tidySorted, addTidied}
-use Rattle.meaning.proofs.Basics.{by-cases, or-il, or-ir, eqb-self, eqb-sym, eqb-ne}
+use Rattle.meaning.proofs.Basics.{by-cases, or-il, or-ir, or-false, eqb-self, eqb-sym, eqb-ne}
 use Rattle.meaning.proofs.Lists.{any-append, any-has, has-keep}
 use Rattle.meaning.proofs.Literals.{opp-opp}
 use Rattle.table.specs.Table.{withRaw}
@@ -66,23 +66,15 @@ module _ (m : ℕ) (x y : List ℕ) where
   idle-met i h k = idle-both (getD y i 0) (unfold has in any-at (eqb (getD y i 0)) 0 y i h (eqb-self (getD y i 0))) (k .0) (k .1)
 
 -- The walk over the literals ----------------------------------------------------------------------------------------------
-or-assoc : (a b c : Bool) → (a || (b || c)) ≡ ((a || b) || c)
-or-assoc true b c = refl
-or-assoc false b c = refl
-
 module _ (m : ℕ) (y : List ℕ) (i : ℕ) (found : Bool) (inv : has m y ≡ (found || has m (drop i y))) where
   pub found-turn : i < length y → has m y ≡ ((found || eqb (getD y i 0) m) || has m (drop (i + 1) y))
   unfolding has anyOf
   found-turn h =
-      inv ∙ rw (add-one, drop-cons y i 0 h, eqb-sym (getD y i 0) m) (or-assoc found (eqb m (getD y i 0)) (anyOf (eqb m) (drop (suc i) y)))
+      inv ∙ rw (add-one, drop-cons y i 0 h, eqb-sym (getD y i 0) m) (sym (or-assoc found (eqb m (getD y i 0)) (anyOf (eqb m) (drop (suc i) y))))
 
   pub found-end : length y ≤ i → has m y ≡ found
   unfolding has anyOf
-  found-end h = inv ∙ rw (drop-of-length-le y {i = i} h) (or-none found)
-    where
-      or-none : (b : Bool) → (b || false) ≡ b
-      or-none true = refl
-      or-none false = refl
+  found-end h = inv ∙ rw (drop-of-length-le y {i = i} h) (or-false found)
 
 -- The walk over the clauses -----------------------------------------------------------------------------------------------
 module _ (f : List ℕ → List (List ℕ)) (cs : List (List ℕ)) (i : ℕ) (h : i < length cs) (y : List ℕ) (is : y ≡ getD cs i []) (idle : Idle (f y)) where
