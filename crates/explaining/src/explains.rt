@@ -9,12 +9,12 @@ ghost use Rattle.table.specs.Table.{tableOf, emptyFormula, Holds};
 ghost use Rattle.index.specs.Build.{HeldWell};
 ghost use Rattle.apply.specs.Applied.{Lends, Lent, Stands};
 ghost use Rattle.explaining.specs.Explaining.{reasonNumber, whyBack, answerOn, Explains};
+use judging::Asked;
+use judging::literals_answer;
 use reasoning::Why;
 use reasoning::explain;
 use reasoning::has_variable;
-use judging::Asked;
 use table::Counts;
-use judging::literals_answer;
 use table::zero;
 
 // What comes of a call. The reasons: the formula has that verdict; the run's next entry; the entry of the step on the variable, which
