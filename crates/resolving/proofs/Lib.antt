@@ -1,3 +1,4 @@
+pub mod BitLaws
 pub mod PairLaws
 pub mod IdleLaws
 pub mod ResolveLaws

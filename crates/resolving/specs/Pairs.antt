@@ -1,9 +1,10 @@
 -- The resolvents, clause by clause. l is the plain literal of the variable and m the negated one.
 -- Assumes nothing.
-use Prim.Native.Nat.{ℕ, _+_, _≤_, _<_}
+use Prim.Native.Nat.{ℕ, _+_, _%_, _^_, _≤_, _<_}
 use mathlib.Core.Path.{_≡_}
 use mathlib.Core.Bool.{true, false, cond}
-use mathlib.Core.List.{List, [], _∷_, _++_}
+use mathlib.Core.List.{List, [], _∷_, _++_, foldl}
+use lib.Bits.{bitOr}
 use lib.ListN.{length, drop}
 use Rattle.meaning.specs.Lists.{has}
 use Rattle.meaning.specs.Formula.{Formula, opposite}
@@ -50,3 +51,10 @@ pub record Within (l m : ℕ) (φ : Formula) (from to : ℕ) : Type 0 where
   pub few : to ≤ length (φ .clauses)
   pub skips : (f : List ℕ → List (List ℕ)) → Silent m f → eachOf f (φ .clauses) ≡ eachOf f (drop from (φ .clauses))
   pub ends : (f : List ℕ → List (List ℕ)) → Silent m f → eachOf f (drop to (φ .clauses)) ≡ []
+
+-- the opposites of a clause's literals, as 64 bits: each by its last six
+unfoldable pub oppositeOn : ℕ → ℕ → ℕ
+oppositeOn bits l = bitOr bits (2 ^ (opposite l % 64))
+
+unfoldable pub oppositeBits : List ℕ → ℕ
+oppositeBits c = foldl oppositeOn 0 c

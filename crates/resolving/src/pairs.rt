@@ -8,7 +8,7 @@ ghost use lib.ListN.{getD, drop};
 ghost use Rattle.meaning.specs.Lists.{has};
 ghost use Rattle.meaning.specs.Formula.{Formula, opposite};
 ghost use Rattle.table.specs.Table.{Holds, Held};
-ghost use Rattle.resolving.specs.Pairs.{eachOf, ofPair, Silent, Idle, Alike};
+ghost use Rattle.resolving.specs.Pairs.{eachOf, ofPair, Silent, Idle, Alike, oppositeBits};
 use table::Counts;
 use table::clause_at;
 use table::contains;
@@ -50,7 +50,9 @@ pub fn end_with(source: &[u16], c: Counts, literal: u16, from: usize) -> usize
 
 // The opposites of a clause's literals, as bits: each by its last six bits. What is found by them is looked up in the clause, so they only
 // save walks.
-pub fn opposite_bits(clause: &[u16]) -> u64 {
+pub fn opposite_bits(clause: &[u16]) -> u64
+    ensures { λ r. ⌜ r ≡ oppositeBits (now (clause .entry)) ⌝ }
+{
     let mut bits: u64 = 0;
     let mut i = 0;
     while i < clause.len() {

@@ -1,19 +1,26 @@
--- Only that all places read are there.
+-- The loop's invariant: the literals that are left make the rest of the bits.
 -- Assumes nothing.
 use Prim.Native.Nat.{_≤_, _-_}
-use lib.ListN.{length}
+use mathlib.Core.Path.{_≡_, refl}
+use mathlib.Core.List.{foldl}
+use native.Mathlib.Omega.{arith}
+use lib.ListN.{length, drop}
+use Rattle.meaning.proofs.Folds.{fold-end}
+use Rattle.resolving.specs.Pairs.{oppositeOn, oppositeBits}
+use Rattle.resolving.proofs.BitLaws.{bits-turn}
 use borrow.Author.Needs.{needs}
 use Rattle.resolving.proofs.pairs.opposite_bits.Statement.{statement}
 use Rattle.resolving.proofs.pairs.opposite_bits.Tie as tie
 
 abbrev Inv-loop : tie.InvT-loop
-Inv-loop clause bits₀ i₀ bits i = i ≤ length clause
+Inv-loop clause bits₀ i₀ bits i = (i ≤ length clause) × (oppositeBits clause ≡ foldl oppositeOn bits (drop i clause))
 
 abbrev μ-loop : tie.MeasureT-loop
 μ-loop clause bits₀ i₀ bits i = length clause - i
 
 loop-holds : tie.Need-loop-holds Inv-loop μ-loop
-loop-holds c = search needs
+unfolding oppositeBits
+loop-holds c = (omega arith, refl)
 
 mul-flip : tie.Need-mul-flip Inv-loop μ-loop
 mul-flip c = search needs
@@ -37,10 +44,14 @@ loop-less : tie.Need-loop-less Inv-loop μ-loop
 loop-less c = search needs
 
 loop-again : tie.Need-loop-again Inv-loop μ-loop
-loop-again c = search needs
+loop-again c =
+    let n = c .before .before in
+    let l = n .before .loop in
+    let x = n .before .before .before .args .clause .now in
+    (omega arith, bits-turn x (l .i) (l .bits) (l .inv .1) (n .loop-test .taken) _ (c .flip .ensures))
 
 returns : tie.Need-returns Inv-loop μ-loop
-returns c = search needs
+returns c = let l = c .before .loop in fold-end oppositeOn 0 _ (l .i) (l .bits) (l .inv .1) (omega arith)
 
 pub opposite-bits-spec : {M : Type 1} → statement M
 opposite-bits-spec =
