@@ -13,6 +13,22 @@ import sys
 ALONE = {
     # named as tactics are, or as words of the library that their crate uses
     "first_of": "first_passing",
+    # constructors of one type, which stand together on a line
+    "isTRUE": "true_end",
+    "isFALSE": "false_end",
+    "outOfRoom": "out_of_room",
+    "entryBad": "entry_bad",
+    "notPermitted": "not_permitted",
+    "noRoom": "no_room",
+    "ofVariables": "of_variables",
+    "ofClauses": "of_clauses",
+    "ofLiterals": "of_literals",
+    "ownEntry": "own_entry",
+    "nextEntry": "next_entry",
+    "notLighter": "not_lighter",
+    "tooHeavy": "too_heavy",
+    "isFormula": "is_formula",
+    "isBytes": "is_bytes",
 }
 # lemmas whose names would be those of definitions: they keep the dash that they had
 DASHED = ["answer_back", "as_written", "free_of", "given_back", "is_true", "no_kind", "one_more", "place_at", "right_of"]
@@ -50,7 +66,7 @@ def turned(names):
         for part in n.split("-"):
             if CAMEL.match(part):
                 parts[part] = snake(part)
-    parts.update({a: b for a, b in ALONE.items() if a in names})
+    parts.update(ALONE)
     return parts
 
 

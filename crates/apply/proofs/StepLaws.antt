@@ -8,7 +8,7 @@ use native.Mathlib.Omega.{arith}
 use Rattle.meaning.specs.Formula.{Formula}
 use Rattle.meaning.specs.WellFormed.{well_formed, fits}
 use Rattle.rules.specs.Entry.{Call, bad, call, read_entry}
-use Rattle.rules.specs.Step.{permitted, result_of, Refusal, entryBad, notPermitted, noRoom, StepAnswer, refused, stepped, in_room, step_call, step_of}
+use Rattle.rules.specs.Step.{permitted, result_of, Refusal, entry_bad, not_permitted, no_room, StepAnswer, refused, stepped, in_room, step_call, step_of}
 use Rattle.table.specs.Table.{table_of, counts_of, empty_formula, Holds}
 use Rattle.table.specs.Answer.{Built}
 use Rattle.table.specs.declared.Counts.{Counts}
@@ -61,10 +61,10 @@ module _ (φ : Formula) (e : ℕ) (x : Call) (is : x ≡ read_entry e) (s : Bool
       stepped-is : {χ ψ : Formula} → stepped χ ≡ stepped ψ → χ ≡ ψ
       stepped-is k = cc
   built-tried false h r y a done full b i =
-      let j : step_of φ e ≡ refused noRoom = i ∙ rw h in
+      let j : step_of φ e ≡ refused no_room = i ∙ rw h in
       record { answer = full a ∙ sym (ap (λ z. stepping_as z s) j); table = λ ψ k. never (sym j ∙ k) }
     where
-      never : {ψ : Formula} {A : Type 0} → refused noRoom ≡ stepped ψ → A
+      never : {ψ : Formula} {A : Type 0} → refused no_room ≡ stepped ψ → A
       never k = let z : ◌≡◌ {A = ℕ} 0 1 = cc in absurd (omega arith)
 
   pub tried-done : (d : Counts) → call_permitted φ x ≡ true → Built (call_result φ x) s (Done d) t → Tried φ e s (Stepped d) t
@@ -89,9 +89,9 @@ module _ (φ : Formula) (e : ℕ) (s : Bool) where
   applied source t a b r h k z = go (step_of φ e) refl r k.answer z
     where
       refusal : (x : Refusal) (y : Stepping) → y ≡ refused_as x → Settled y source t a b → (a ≡ table_of φ) × (b ≡ table_of empty_formula)
-      refusal entryBad y i z = let w : Settled BadEntry source t a b = rw i at z in (w.0 ∙ h, w.1)
-      refusal notPermitted y i z = let w : Settled NotPermitted source t a b = rw i at z in (w.0 ∙ h, w.1)
-      refusal noRoom y i z = let w : Settled NoRoom source t a b = rw i at z in (w.0 ∙ h, w.1)
+      refusal entry_bad y i z = let w : Settled BadEntry source t a b = rw i at z in (w.0 ∙ h, w.1)
+      refusal not_permitted y i z = let w : Settled NotPermitted source t a b = rw i at z in (w.0 ∙ h, w.1)
+      refusal no_room y i z = let w : Settled NoRoom source t a b = rw i at z in (w.0 ∙ h, w.1)
 
       go : (x : StepAnswer) → step_of φ e ≡ x → (y : Stepping) → y ≡ stepping_as (step_of φ e) s → Settled y source t a b → Applied φ e s y a b
       go (refused x) i y j z = let w = refusal x y (j ∙ ap (λ v. stepping_as v s) i) z in

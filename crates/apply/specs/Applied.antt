@@ -4,7 +4,7 @@ use Rattle.std.specs.Prelude.{◌≡◌, ℕ, Bool, true, not, cond, List, lengt
 use Rattle.meaning.specs.Formula.{Formula}
 use Rattle.meaning.specs.WellFormed.{well_formed}
 use Rattle.rules.specs.Entry.{Call, bad, call, read_entry}
-use Rattle.rules.specs.Step.{result_of, Refusal, entryBad, notPermitted, noRoom, StepAnswer, refused, stepped, step_of}
+use Rattle.rules.specs.Step.{result_of, Refusal, entry_bad, not_permitted, no_room, StepAnswer, refused, stepped, step_of}
 use Rattle.table.specs.Table.{table_length, table_of, counts_of, empty_formula, Holds}
 use Rattle.steps.specs.Decide.{call_permitted}
 use Rattle.table.specs.Lent.{named}
@@ -20,8 +20,8 @@ call_result φ (call k a b) = result_of φ k a b
 
 -- why it is refused, if it is not permitted
 unfoldable pub refusal_of : Call → Refusal
-refusal_of bad = entryBad
-refusal_of (call k a b) = notPermitted
+refusal_of bad = entry_bad
+refusal_of (call k a b) = not_permitted
 
 -- the caller knows that the entry e calls a permitted step, where it says so
 abbrev pub Known : Formula → ℕ → Bool → Type 0
@@ -29,9 +29,9 @@ Known φ e known = known ≡ true → call_permitted φ (read_entry e) ≡ true
 
 -- What is given back ------------------------------------------------------------------------------------------
 unfoldable pub refused_as : Refusal → Stepping
-refused_as entryBad = BadEntry
-refused_as notPermitted = NotPermitted
-refused_as noRoom = NoRoom
+refused_as entry_bad = BadEntry
+refused_as not_permitted = NotPermitted
+refused_as no_room = NoRoom
 
 -- the record of the result names the table on side s
 unfoldable pub stepping_as : StepAnswer → Bool → Stepping

@@ -14,7 +14,7 @@ use Rattle.rules.specs.Entry.{Kind, unit, pure, subsume, strengthen, equality, r
 use Rattle.rules.specs.Step.{permitted, result_of}
 use Rattle.rules.specs.Choice.{Found, none, found, costly, wanted, blocked_call, firsts, seconds, candidate, kinds, any_blocked, stuck, take_found, choose_of, choose}
 use Rattle.rules.specs.Run as rules
-use Rattle.rules.specs.Run.{over, step, isTRUE, isFALSE}
+use Rattle.rules.specs.Run.{over, step, true_end, false_end}
 use Rattle.rules.proofs.Permitted.{allowed-wanted, wanted-permitted}
 use Rattle.rules.proofs.Choose.{find-found, fields-of}
 use Rattle.rules.proofs.Search.{found-lightest}
@@ -166,11 +166,11 @@ some-clause (c ∷ cs) h = refl
 
 module _ (E : ℕ) (φ : Formula) where
   -- At each point ------------------------------------------------------------------------------------------------
-  pub next-false : empty_clause φ.clauses ≡ true → ChosenAs φ (rules.next E φ) (record { next = next_as (over isFALSE); searched = 0 })
+  pub next-false : empty_clause φ.clauses ≡ true → ChosenAs φ (rules.next E φ) (record { next = next_as (over false_end); searched = 0 })
   unfolding rules.next
   next-false e = rw e (record { next = refl; searched = tt })
 
-  pub next-true : empty_clause φ.clauses ≡ false → length φ.clauses ≡ 0 → ChosenAs φ (rules.next E φ) (record { next = next_as (over isTRUE); searched = 0 })
+  pub next-true : empty_clause φ.clauses ≡ false → length φ.clauses ≡ 0 → ChosenAs φ (rules.next E φ) (record { next = next_as (over true_end); searched = 0 })
   unfolding rules.next
   next-true e h = rw (e, no-clause φ.clauses h) (record { next = refl; searched = tt })
 

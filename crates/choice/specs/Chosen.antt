@@ -9,7 +9,7 @@ use Rattle.rules.specs.Entry.{Kind, unit, pure, subsume, strengthen, equality, r
 use Rattle.rules.specs.Step.{result_of}
 use Rattle.rules.specs.Choice.{Found, none, found, blocked_call, firsts, candidate, stuck, choose_of}
 use Rattle.rules.specs.Run as rules
-use Rattle.rules.specs.Run.{isTRUE, isFALSE, finished, outOfRoom, over, step}
+use Rattle.rules.specs.Run.{true_end, false_end, finished, out_of_room, over, step}
 use Rattle.table.specs.Table.{Holds}
 use Rattle.table.specs.Ranks.{ranks_of}
 use Rattle.table.specs.declared.Counts.{Counts}
@@ -28,10 +28,10 @@ use Rattle.choice.specs.declared.Best.TheVariants.{Nothing, Lightest}
 use Rattle.choice.specs.declared.Standing.{Standing}
 
 unfoldable pub end_as : rules.End → End
-end_as isTRUE = end.True
-end_as isFALSE = end.False
+end_as true_end = end.True
+end_as false_end = end.False
 end_as finished = end.Finished
-end_as outOfRoom = end.OutOfRoom
+end_as out_of_room = end.OutOfRoom
 
 unfoldable pub next_as : rules.Next → Next
 next_as (over e) = next.Over (end_as e)

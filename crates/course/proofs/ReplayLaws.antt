@@ -10,7 +10,7 @@ use lib.ListN.{length, take, drop, length-drop, drop_of_length-le}
 use lib.Seq.{drop-drop}
 use Rattle.meaning.specs.Formula.{Formula}
 use Rattle.rules.specs.Entry.{byte_entry, LogRead, bad_length, entries, one_more, read_log}
-use Rattle.rules.specs.Step.{Refusal, entryBad, notPermitted, noRoom, StepAnswer, refused, stepped, step_of}
+use Rattle.rules.specs.Step.{Refusal, entry_bad, not_permitted, no_room, StepAnswer, refused, stepped, step_of}
 use Rattle.rules.specs.Run.{Stop, all_applied, refused_by, Replayed, replayed_none, one_applied, replay_on, replay, replay_read, replay_bytes}
 use Rattle.table.specs.Table.{counts_of}
 use Rattle.table.specs.declared.Counts.{Counts}
@@ -83,22 +83,22 @@ front (a ∷ b ∷ c ∷ d ∷ bs) es e h k is = go (read_log bs) refl k
 -- What a step answers --------------------------------------------------------------------------------------------
 no_step : {A : Type 0} (x : Refusal) (d : Counts) → Stepped d ≡ refused_as x → A
 unfolding refused_as
-no_step entryBad d q = absurd (let z : ◌≡◌ {A = ℕ} 0 1 = cc in omega arith)
-no_step notPermitted d q = absurd (let z : ◌≡◌ {A = ℕ} 0 1 = cc in omega arith)
-no_step noRoom d q = absurd (let z : ◌≡◌ {A = ℕ} 0 1 = cc in omega arith)
+no_step entry_bad d q = absurd (let z : ◌≡◌ {A = ℕ} 0 1 = cc in omega arith)
+no_step not_permitted d q = absurd (let z : ◌≡◌ {A = ℕ} 0 1 = cc in omega arith)
+no_step no_room d q = absurd (let z : ◌≡◌ {A = ℕ} 0 1 = cc in omega arith)
 
 -- the refusal that is told
 unfoldable told_by : Stepping → Refusal
-told_by (Stepped d) = entryBad
-told_by BadEntry = entryBad
-told_by NotPermitted = notPermitted
-told_by NoRoom = noRoom
+told_by (Stepped d) = entry_bad
+told_by BadEntry = entry_bad
+told_by NotPermitted = not_permitted
+told_by NoRoom = no_room
 
 told : (x : Refusal) → told_by (refused_as x) ≡ x
 unfolding told_by refused_as
-told entryBad = refl
-told notPermitted = refl
-told noRoom = refl
+told entry_bad = refl
+told not_permitted = refl
+told no_room = refl
 
 refusal-one : (y x : Refusal) → refused_as y ≡ refused_as x → y ≡ x
 refusal-one y x q = sym (told y) ∙ ap told_by q ∙ told x

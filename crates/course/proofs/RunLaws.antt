@@ -13,7 +13,7 @@ use Rattle.meaning.specs.Formula.{Formula}
 use Rattle.meaning.specs.WellFormed.{well_formed, fits}
 use Rattle.rules.specs.Entry.{Kind, entry, entry_bytes, log_bytes}
 use Rattle.rules.specs.Step.{result_of, stepped, step_of}
-use Rattle.rules.specs.Run.{End, isTRUE, isFALSE, finished, outOfRoom, ended, stopped, over, step, next, Ran, ran_nothing, logged, halt, onward, run_from}
+use Rattle.rules.specs.Run.{End, true_end, false_end, finished, out_of_room, ended, stopped, over, step, next, Ran, ran_nothing, logged, halt, onward, run_from}
 use Rattle.rules.proofs.Next.{Going, going}
 use Rattle.table.proofs.ListLaws.{tail_written}
 use Rattle.search.specs.Searched.{SearchedTo}
@@ -107,10 +107,10 @@ run_step E m ψ k a b h = rw h
 
 end-outcome : (o : End) → ended_as (end_as o) ≡ outcome_as (ended o)
 unfolding ended_as end_as outcome_as
-end-outcome isTRUE = refl
-end-outcome isFALSE = refl
+end-outcome true_end = refl
+end-outcome false_end = refl
 end-outcome finished = refl
-end-outcome outOfRoom = refl
+end-outcome out_of_room = refl
 
 module _ (φ : Formula) (E room : ℕ) (s : Bool) (log₀ : List ℕ) where
   -- before the first

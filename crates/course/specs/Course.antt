@@ -4,9 +4,9 @@ use Rattle.std.specs.Prelude.{◌≡◌, ℕ, zero, suc, ◌*◌, Bool, true, no
 use Rattle.meaning.specs.Formula.{Formula}
 use Rattle.meaning.specs.WellFormed.{well_formed, fits}
 use Rattle.rules.specs.Entry.{log_bytes}
-use Rattle.rules.specs.Step.{entryBad, notPermitted, noRoom}
+use Rattle.rules.specs.Step.{entry_bad, not_permitted, no_room}
 use Rattle.rules.specs.Run as rules
-use Rattle.rules.specs.Run.{isTRUE, isFALSE, finished, outOfRoom, ended, stopped, Ran, Replayed, all_applied, refused_by}
+use Rattle.rules.specs.Run.{true_end, false_end, finished, out_of_room, ended, stopped, Ran, Replayed, all_applied, refused_by}
 use Rattle.table.specs.Table.{counts_of}
 use Rattle.table.specs.declared.Counts.{Counts}
 use Rattle.apply.specs.Applied.{Stands}
@@ -20,10 +20,10 @@ use Rattle.course.specs.declared.Stop.TheVariants.{Applied, BadEntry, NotPermitt
 use Rattle.course.specs.declared.Replaying.{Replaying}
 
 unfoldable pub outcome_as : rules.Outcome → Outcome
-outcome_as (ended isTRUE) = True
-outcome_as (ended isFALSE) = False
+outcome_as (ended true_end) = True
+outcome_as (ended false_end) = False
 outcome_as (ended finished) = Finished
-outcome_as (ended outOfRoom) = OutOfRoom
+outcome_as (ended out_of_room) = OutOfRoom
 outcome_as stopped = Stopped
 
 -- the same, from the code's answer for a run that ends by itself
@@ -35,9 +35,9 @@ ended_as end.OutOfRoom = OutOfRoom
 
 unfoldable pub stop_as : rules.Stop → Stop
 stop_as all_applied = Applied
-stop_as (refused_by entryBad) = BadEntry
-stop_as (refused_by notPermitted) = NotPermitted
-stop_as (refused_by noRoom) = NoRoom
+stop_as (refused_by entry_bad) = BadEntry
+stop_as (refused_by not_permitted) = NotPermitted
+stop_as (refused_by no_room) = NoRoom
 
 -- "A step's result stands in the other table": the side after n steps from side s
 unfoldable pub side_from : Bool → ℕ → Bool

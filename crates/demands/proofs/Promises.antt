@@ -12,7 +12,7 @@ use Rattle.meaning.specs.WellFormed.{well_formed, fits, weight, universals, max_
 use Rattle.rules.specs.Entry.{Kind, entry, read_entry}
 use Rattle.rules.specs.Step.{stepped, step_of}
 use Rattle.rules.specs.Choice.{allowed, blocked, choose, take_step, stuck}
-use Rattle.rules.specs.Run.{run, ended, stopped, isTRUE, isFALSE, step_bound, all_applied, replay}
+use Rattle.rules.specs.Run.{run, ended, stopped, true_end, false_end, step_bound, all_applied, replay}
 use Rattle.qdimacs.specs.Read.{good, as_written, read}
 use Rattle.qdimacs.specs.Write.{write}
 use Rattle.meaning.proofs.Basics.{false_of}
@@ -72,7 +72,7 @@ answering φ e = step-says φ e
 
 -- TRUE and FALSE are the truth of the formula in the text.
 pub verdict : (text : List ℕ) (written φ : Formula) → as_written text ≡ good written → read text ≡ good φ → (E limit bytes : ℕ)
-    → ((run E limit bytes φ).outcome ≡ ended isTRUE → is_true written ≡ true) × ((run E limit bytes φ).outcome ≡ ended isFALSE → is_true written ≡ false)
+    → ((run E limit bytes φ).outcome ≡ ended true_end → is_true written ≡ true) × ((run E limit bytes φ).outcome ≡ ended false_end → is_true written ≡ false)
 unfolding run
 verdict text written φ a h E limit bytes =
     let r = run-right E (min limit (bytes / 4)) φ (read-well-formed text φ h) (read_fits text φ h) in

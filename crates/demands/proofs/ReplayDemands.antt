@@ -11,7 +11,7 @@ use Rattle.rules.specs.Run as rules
 use Rattle.meaning.specs.Formula.{Formula}
 use Rattle.meaning.specs.Game.{is_true}
 use Rattle.rules.specs.Entry.{LogRead, bad_length, entries, read_log}
-use Rattle.rules.specs.Step.{entryBad, refusal_number}
+use Rattle.rules.specs.Step.{entry_bad, refusal_number}
 use Rattle.rules.specs.Run.{Stop, all_applied, refused_by, replayed_none, replay, replay_read, replay_bytes}
 use Rattle.table.specs.Table.{counts_of}
 use Rattle.judging.specs.Check.{asked, asked_number}
@@ -132,14 +132,14 @@ module _ (a b : List ℕ) (c : Counts) (log : List ℕ) (r : Replayed) (a' b' : 
 
     -- its length is no multiple of 4
     module _ (e : read_log log ≡ bad_length) where
-      bad-is : x ≡ replayed_none (refused_by entryBad) φ
+      bad-is : x ≡ replayed_none (refused_by entry_bad) φ
       unfolding replay_in replay_bytes replay_read
       bad-is = rw e
 
       says-bad : (step_number r.answer ≡ 12) × (r.applied ≡ 0) × (formula_in a' b' r.counts ≡ φ)
       unfolding replayed_none stop_answer refusal_number
       says-bad = (
-        number_is ∙ ap (λ (y : rules.Replayed). step_number (stop_answer y.stop)) bad-is ∙ refusal-number entryBad,
+        number_is ∙ ap (λ (y : rules.Replayed). step_number (stop_answer y.stop)) bad-is ∙ refusal-number entry_bad,
         applied-is ∙ ap (λ (y : rules.Replayed). y.applied) bad-is,
         final-is ∙ ap (λ (y : rules.Replayed). y.formula) bad-is,
       )

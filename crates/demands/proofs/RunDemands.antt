@@ -16,7 +16,7 @@ use Rattle.meaning.specs.Formula.{Formula}
 use Rattle.meaning.specs.Game.{is_true}
 use Rattle.rules.specs.Entry.{log_bytes}
 use Rattle.rules.specs.Choice.{blocked}
-use Rattle.rules.specs.Run.{isTRUE, isFALSE, finished, outOfRoom, ended, stopped, step_bound, end_number, outcome_number}
+use Rattle.rules.specs.Run.{true_end, false_end, finished, out_of_room, ended, stopped, step_bound, end_number, outcome_number}
 use Rattle.table.specs.Table.{counts_of}
 use Rattle.judging.specs.Check.{asked}
 use Rattle.table.specs.declared.Counts.{Counts}
@@ -37,30 +37,30 @@ use Rattle.standing.proofs.LentLaws.{lends, stands-formula, stands-given}
 -- the number of an outcome's answer is the outcome's
 number_is : (o : rules.Outcome) → run_number (outcome_answer o) ≡ outcome_number o
 unfolding run_number outcome_answer outcome_number end_number
-number_is (ended isTRUE) = refl
-number_is (ended isFALSE) = refl
+number_is (ended true_end) = refl
+number_is (ended false_end) = refl
 number_is (ended finished) = refl
-number_is (ended outOfRoom) = refl
+number_is (ended out_of_room) = refl
 number_is stopped = refl
 
 number-large : (o : rules.Outcome) → 20 ≤ outcome_number o
 unfolding outcome_number end_number
-number-large (ended isTRUE) = omega arith
-number-large (ended isFALSE) = omega arith
+number-large (ended true_end) = omega arith
+number-large (ended false_end) = omega arith
 number-large (ended finished) = omega arith
-number-large (ended outOfRoom) = omega arith
+number-large (ended out_of_room) = omega arith
 number-large stopped = omega arith
 
 -- the outcome with a number; so outcomes with the same number are the same
 unfoldable outcome_at : ℕ → rules.Outcome
-outcome_at k = cond (eqb k 20) (ended isTRUE) (cond (eqb k 21) (ended isFALSE) (cond (eqb k 22) (ended finished) (cond (eqb k 23) (ended outOfRoom) stopped)))
+outcome_at k = cond (eqb k 20) (ended true_end) (cond (eqb k 21) (ended false_end) (cond (eqb k 22) (ended finished) (cond (eqb k 23) (ended out_of_room) stopped)))
 
 at-number : (o : rules.Outcome) → outcome_at (outcome_number o) ≡ o
 unfolding outcome_at outcome_number end_number
-at-number (ended isTRUE) = refl
-at-number (ended isFALSE) = refl
+at-number (ended true_end) = refl
+at-number (ended false_end) = refl
 at-number (ended finished) = refl
-at-number (ended outOfRoom) = refl
+at-number (ended out_of_room) = refl
 at-number stopped = refl
 
 same_number : (o p : rules.Outcome) → outcome_number o ≡ outcome_number p → o ≡ p
@@ -73,11 +73,11 @@ by_number E n φ x h =
     record {
       few = h.few;
       within = h.limit;
-      is-true = λ k. h.says-true (same_number x.outcome (ended isTRUE) k);
-      is_false = λ k. h.says-false (same_number x.outcome (ended isFALSE) k);
+      is-true = λ k. h.says-true (same_number x.outcome (ended true_end) k);
+      is_false = λ k. h.says-false (same_number x.outcome (ended false_end) k);
       finished = λ k e.
           let y = h.says-finished (same_number x.outcome (ended finished) k) e in (y.0, false_of (blocked E x.final e) y.1);
-      out-of-room = λ k. h.says-no-room (same_number x.outcome (ended outOfRoom) k);
+      out-of-room = λ k. h.says-no-room (same_number x.outcome (ended out_of_room) k);
       stopped = λ k. h.says-stopped (same_number x.outcome stopped k);
       ends = λ room k. h.ends room (same_number x.outcome stopped k);
     }

@@ -9,7 +9,7 @@ use Rattle.rules.specs.Step as rules
 use Rattle.judging.specs.declared.Asked.TheVariants as said
 use Rattle.meaning.specs.Formula.{Formula}
 use Rattle.meaning.specs.Game.{is_true}
-use Rattle.rules.specs.Step.{Refusal, entryBad, notPermitted, noRoom, refusal_number, refused, stepped, step_of}
+use Rattle.rules.specs.Step.{Refusal, entry_bad, not_permitted, no_room, refusal_number, refused, stepped, step_of}
 use Rattle.table.specs.Table.{counts_of}
 use Rattle.table.specs.Lent.{named}
 use Rattle.judging.specs.Check.{asked, asked_number}
@@ -26,15 +26,15 @@ use Rattle.standing.proofs.LentLaws.{lends, stands-named, stands-formula, stands
 -- the number of a step's own refusal
 pub refusal-number : (y : Refusal) → step_number (refusal_answer y) ≡ refusal_number y
 unfolding step_number refusal_answer refusal_number
-refusal-number entryBad = refl
-refusal-number notPermitted = refl
-refusal-number noRoom = refl
+refusal-number entry_bad = refl
+refusal-number not_permitted = refl
+refusal-number no_room = refl
 
 pub refusal-large : (y : Refusal) → 10 ≤ refusal_number y
 unfolding refusal_number
-refusal-large entryBad = omega arith
-refusal-large notPermitted = omega arith
-refusal-large noRoom = omega arith
+refusal-large entry_bad = omega arith
+refusal-large not_permitted = omega arith
+refusal-large no_room = omega arith
 
 module _ (a b : List ℕ) (c : Counts) (e : ℕ) (r : Stepped) (a' b' : List ℕ) (w : Steps a b c e r a' b') where
   pub steps-once : (q : Stepped) (x y : List ℕ) → Steps a b c e q x y → (r ≡ q) × (a' ≡ x) × (b' ≡ y)

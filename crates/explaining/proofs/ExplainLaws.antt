@@ -9,7 +9,7 @@ use lib.ListN.{take}
 use Rattle.judging.specs.declared.Asked.TheVariants as said
 use Rattle.explaining.specs.declared.explains.ReasonAnswer.TheVariants as says
 use Rattle.meaning.specs.Formula.{Formula, mentions}
-use Rattle.reasons.specs.Reason.{Limit, ofVariables, ofClauses, ofLiterals, Reason, verdict, nextEntry, ownEntry, too_far_right, notLighter, between, tooHeavy, over_limit, reason_of}
+use Rattle.reasons.specs.Reason.{Limit, of_variables, of_clauses, of_literals, Reason, verdict, next_entry, own_entry, too_far_right, not_lighter, between, too_heavy, over_limit, reason_of}
 use Rattle.table.specs.Table.{Holds}
 use Rattle.judging.specs.Check.{asked}
 use Rattle.table.specs.declared.Counts.{Counts}
@@ -27,15 +27,15 @@ reason-back : (x : Reason) → why_back (why_as x) ≡ reason_answer x
 unfolding why_back why_as limit_as reason_answer limit_answer
 reason-back (verdict true) = refl
 reason-back (verdict false) = refl
-reason-back (nextEntry e) = refl
-reason-back (ownEntry e) = refl
+reason-back (next_entry e) = refl
+reason-back (own_entry e) = refl
 reason-back (too_far_right i y u) = refl
-reason-back (notLighter m n) = refl
+reason-back (not_lighter m n) = refl
 reason-back (between e u) = refl
-reason-back (tooHeavy m n) = refl
-reason-back (over_limit ofVariables) = refl
-reason-back (over_limit ofClauses) = refl
-reason-back (over_limit ofLiterals) = refl
+reason-back (too_heavy m n) = refl
+reason-back (over_limit of_variables) = refl
+reason-back (over_limit of_clauses) = refl
+reason-back (over_limit of_literals) = refl
 
 -- The variable is in the prefix, or not: b says so of the table's own prefix -------------------------------------
 module _ {φ : Formula} {t : List ℕ} {c : Counts} (h : Holds φ t c) (v : ℕ) (b : Bool) (said : b ≡ mentions (take c.variables t) v) where

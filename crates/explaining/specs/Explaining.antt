@@ -6,7 +6,7 @@ use Rattle.judging.specs.declared.Asked.TheVariants as said
 use Rattle.reasoning.specs.declared.Why.TheVariants as came
 use Rattle.explaining.specs.declared.explains.ReasonAnswer.TheVariants as says
 use Rattle.meaning.specs.Formula.{Formula, mentions}
-use Rattle.reasons.specs.Reason.{Limit, ofVariables, ofClauses, ofLiterals, Reason, verdict, nextEntry, ownEntry, too_far_right, notLighter, between, tooHeavy, over_limit, reason_of}
+use Rattle.reasons.specs.Reason.{Limit, of_variables, of_clauses, of_literals, Reason, verdict, next_entry, own_entry, too_far_right, not_lighter, between, too_heavy, over_limit, reason_of}
 use Rattle.judging.specs.Check.{asked}
 use Rattle.table.specs.declared.Counts.{Counts}
 use Rattle.judging.specs.declared.Asked.{Asked}
@@ -35,19 +35,19 @@ reason_number says.NotPermitted = 10
 
 -- the answer that gives a reason
 unfoldable pub limit_answer : Limit → ReasonAnswer
-limit_answer ofVariables = says.OverVariables
-limit_answer ofClauses = says.OverClauses
-limit_answer ofLiterals = says.OverLiterals
+limit_answer of_variables = says.OverVariables
+limit_answer of_clauses = says.OverClauses
+limit_answer of_literals = says.OverLiterals
 
 unfoldable pub reason_answer : Reason → ReasonAnswer
 reason_answer (verdict true) = says.True
 reason_answer (verdict false) = says.False
-reason_answer (nextEntry e) = says.NextEntry e
-reason_answer (ownEntry e) = says.OwnEntry e
+reason_answer (next_entry e) = says.NextEntry e
+reason_answer (own_entry e) = says.OwnEntry e
 reason_answer (too_far_right i y u) = says.TooFarRight i y u
-reason_answer (notLighter m n) = says.NotLighter m n
+reason_answer (not_lighter m n) = says.NotLighter m n
 reason_answer (between e u) = says.Between e u
-reason_answer (tooHeavy m n) = says.TooHeavy m n
+reason_answer (too_heavy m n) = says.TooHeavy m n
 reason_answer (over_limit l) = limit_answer l
 
 -- What is said of a call: "a variable not in the prefix is 10, after 1, 2 and 13" -------------------------------

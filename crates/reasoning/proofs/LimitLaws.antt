@@ -10,24 +10,24 @@ use Rattle.meaning.specs.Formula.{Formula}
 use Rattle.meaning.specs.WellFormed.{literals, fits}
 use Rattle.table.specs.Table.{counts_of}
 use Rattle.table.specs.declared.Counts.{Counts}
-use Rattle.reasons.specs.Reason.{ofVariables, ofClauses, ofLiterals, within, first_limit}
+use Rattle.reasons.specs.Reason.{of_variables, of_clauses, of_literals, within, first_limit}
 use Rattle.reasons.proofs.Limits.{fits-is}
 use Rattle.reasoning.specs.Whys.{limit_as, limit_or}
 use Rattle.reasoning.specs.declared.Why.{Why}
 use Rattle.reasoning.specs.declared.Why.TheVariants.{OwnEntry, OverVariables, OverClauses, OverLiterals}
 
 -- by the three tests
-by_tests : (ψ : Formula) (e : ℕ) (a b c : Bool) → within ofVariables ψ ≡ a → within ofClauses ψ ≡ b → within ofLiterals ψ ≡ c
-    → limit_or ψ e ≡ cond (a && (b && c)) (OwnEntry e) (limit_as (cond (not a) ofVariables (cond (not b) ofClauses ofLiterals)))
+by_tests : (ψ : Formula) (e : ℕ) (a b c : Bool) → within of_variables ψ ≡ a → within of_clauses ψ ≡ b → within of_literals ψ ≡ c
+    → limit_or ψ e ≡ cond (a && (b && c)) (OwnEntry e) (limit_as (cond (not a) of_variables (cond (not b) of_clauses of_literals)))
 unfolding limit_or first_limit
 by_tests ψ e a b c x y z = rw (fits-is ψ, x, y, z)
 
-module _ (ψ : Formula) (d : Counts) (is : d ≡ counts_of ψ d.second) (n : ℕ) (numbers : within ofVariables ψ ≡ leb n 1023) (e : ℕ) where
-  clauses-by : within ofClauses ψ ≡ leb d.clauses 2047
+module _ (ψ : Formula) (d : Counts) (is : d ≡ counts_of ψ d.second) (n : ℕ) (numbers : within of_variables ψ ≡ leb n 1023) (e : ℕ) where
+  clauses-by : within of_clauses ψ ≡ leb d.clauses 2047
   unfolding within counts_of
   clauses-by = ap (λ (c : Counts). leb c.clauses 2047) (sym is)
 
-  literals-by : within ofLiterals ψ ≡ leb d.literals 8191
+  literals-by : within of_literals ψ ≡ leb d.literals 8191
   unfolding within counts_of
   literals-by = ap (λ (c : Counts). leb c.literals 8191) (sym is)
 

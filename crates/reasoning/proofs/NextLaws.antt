@@ -9,7 +9,7 @@ use Rattle.meaning.specs.WellFormed.{well_formed, fits}
 use Rattle.rules.specs.Entry.{Kind, code, entry}
 use Rattle.rules.specs.Choice.{costly, choose, take_step}
 use Rattle.rules.specs.Run as rules
-use Rattle.rules.specs.Run.{isTRUE, isFALSE, finished, outOfRoom, over, step}
+use Rattle.rules.specs.Run.{true_end, false_end, finished, out_of_room, over, step}
 use Rattle.choice.specs.Chosen.{end_as, next_as}
 use Rattle.choice.specs.declared.End.{End}
 use Rattle.choice.specs.declared.End.TheVariants as end
@@ -33,22 +33,22 @@ never z = omega arith
 
 end_is : (x e : rules.End) → end_as x ≡ end_as e → x ≡ e
 unfolding end_as
-end_is isTRUE isTRUE h = refl
-end_is isTRUE isFALSE h = absurd (never cc)
-end_is isTRUE finished h = absurd (never cc)
-end_is isTRUE outOfRoom h = absurd (never cc)
-end_is isFALSE isTRUE h = absurd (never cc)
-end_is isFALSE isFALSE h = refl
-end_is isFALSE finished h = absurd (never cc)
-end_is isFALSE outOfRoom h = absurd (never cc)
-end_is finished isTRUE h = absurd (never cc)
-end_is finished isFALSE h = absurd (never cc)
+end_is true_end true_end h = refl
+end_is true_end false_end h = absurd (never cc)
+end_is true_end finished h = absurd (never cc)
+end_is true_end out_of_room h = absurd (never cc)
+end_is false_end true_end h = absurd (never cc)
+end_is false_end false_end h = refl
+end_is false_end finished h = absurd (never cc)
+end_is false_end out_of_room h = absurd (never cc)
+end_is finished true_end h = absurd (never cc)
+end_is finished false_end h = absurd (never cc)
 end_is finished finished h = refl
-end_is finished outOfRoom h = absurd (never cc)
-end_is outOfRoom isTRUE h = absurd (never cc)
-end_is outOfRoom isFALSE h = absurd (never cc)
-end_is outOfRoom finished h = absurd (never cc)
-end_is outOfRoom outOfRoom h = refl
+end_is finished out_of_room h = absurd (never cc)
+end_is out_of_room true_end h = absurd (never cc)
+end_is out_of_room false_end h = absurd (never cc)
+end_is out_of_room finished h = absurd (never cc)
+end_is out_of_room out_of_room h = refl
 
 over-is : (x : rules.Next) (e : rules.End) → next_as x ≡ next.Over (end_as e) → x ≡ over e
 unfolding next_as
@@ -74,11 +74,11 @@ module _ (E : ℕ) (φ : Formula) (r : Next) (said : r ≡ next_as (rules.next E
 
   pub says-true : r ≡ next.Over end.True → (v : ℕ) → True ≡ why_as (reason_of E φ v)
   unfolding why_as reason_of reason_at end_as
-  says-true h v = rw (over-next isTRUE h)
+  says-true h v = rw (over-next true_end h)
 
   pub says-false : r ≡ next.Over end.False → (v : ℕ) → False ≡ why_as (reason_of E φ v)
   unfolding why_as reason_of reason_at end_as
-  says-false h v = rw (over-next isFALSE h)
+  says-false h v = rw (over-next false_end h)
 
   module _ (w : well_formed φ ≡ true) (f : fits φ ≡ true) where
     -- no verdict, and none of kinds 1 to 5
@@ -91,8 +91,8 @@ module _ (E : ℕ) (φ : Formula) (r : Next) (said : r ≡ next_as (rules.next E
     pub roomless-quiet : r ≡ next.Over end.OutOfRoom → Quiet φ
     unfolding end_as
     roomless-quiet h =
-        let n : rules.next E φ ≡ over outOfRoom = over-next outOfRoom h in
-        stuck-quiet E φ f (verdict-or E φ (λ e. never (let z = sym n ∙ e in cc)) (λ e. never (let z = sym n ∙ e in cc))) true (next-over E φ outOfRoom n)
+        let n : rules.next E φ ≡ over out_of_room = over-next out_of_room h in
+        stuck-quiet E φ f (verdict-or E φ (λ e. never (let z = sym n ∙ e in cc)) (λ e. never (let z = sym n ∙ e in cc))) true (next-over E φ out_of_room n)
 
     module _ (n : ℕ) (h : r ≡ next.Step n) where
       is-taken : Taken (rules.next E φ) n

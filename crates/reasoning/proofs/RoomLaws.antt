@@ -18,7 +18,7 @@ use Rattle.rules.specs.Entry.{resolve, expand}
 use Rattle.rules.specs.Step.{raw_of, result_of}
 use Rattle.table.specs.Table.{Holds, counts_of}
 use Rattle.table.specs.declared.Counts.{Counts}
-use Rattle.reasons.specs.Reason.{ofVariables, within}
+use Rattle.reasons.specs.Reason.{of_variables, within}
 use Rattle.meaning.proofs.Basics.{by_cases, clash, false_of}
 use Rattle.meaning.proofs.Lists.{any-keep-le, all-keep-le}
 use Rattle.meaning.proofs.Parts.{good_of, room_of}
@@ -52,13 +52,13 @@ and-true true = refl
 and-true false = refl
 
 pub resolve-room : (φ : Formula) → fits φ ≡ true → (a : ℕ) (d : Counts) → d ≡ counts_of (result_of φ resolve a 0) d.second
-    → within ofVariables (result_of φ resolve a 0) ≡ leb d.variables 1023
+    → within of_variables (result_of φ resolve a 0) ≡ leb d.variables 1023
 resolve-room φ f a d is = rw (count-is _ d is) room
   where
     small : all_of (λ q. leb (var q) 1023) (drop_var a φ.prefix) ≡ true
     small = unfold drop_var in all-keep-le (λ q. leb (var q) 1023) (λ q. not (is_var a q)) φ.prefix (room_of φ f).numbers
 
-    room : within ofVariables (result_of φ resolve a 0) ≡ leb (length (result_of φ resolve a 0).prefix) 1023
+    room : within of_variables (result_of φ resolve a 0) ≡ leb (length (result_of φ resolve a 0).prefix) 1023
     room = unfold within result_of raw_of tidied resolve_raw in rw small (and-true (leb (length (drop_var a φ.prefix)) 1023))
 
 -- Expand -------------------------------------------------------------------------------------------------------------
@@ -90,7 +90,7 @@ module _ (φ : Formula) (w : well_formed φ ≡ true) (a : ℕ) (ok : expand_per
   ok-raw = expand-ok φ w a ok
 
   pub expand-room : fits φ ≡ true → (d : Counts) → d ≡ counts_of (result_of φ expand a 0) d.second
-      → within ofVariables (result_of φ expand a 0) ≡ leb (d.variables + 1) 1023
+      → within of_variables (result_of φ expand a 0) ≡ leb (d.variables + 1) 1023
   unfolding within result_of raw_of tidied expand_raw expand_with
   expand-room f d is =
       let s = expand-some in

@@ -20,7 +20,7 @@ use Rattle.table.specs.Ranks.{ranks_of}
 use Rattle.index.specs.Build.{HeldWell}
 use Rattle.choice.specs.Chosen.{Ranks}
 use Rattle.growth.specs.Weights.{NoneSubsumed, Summable}
-use Rattle.reasons.specs.Reason.{ownEntry, notLighter, tooHeavy, over_limit, universal_after, existential_after, far_clause, far_variable, why_existential, why_universal, why_left}
+use Rattle.reasons.specs.Reason.{own_entry, not_lighter, too_heavy, over_limit, universal_after, existential_after, far_clause, far_variable, why_existential, why_universal, why_left}
 use Rattle.reasons.specs.Statement.{Quiet}
 use Rattle.meaning.proofs.Basics.{by_cases}
 use Rattle.meaning.proofs.Prefix.{exists-mentioned}

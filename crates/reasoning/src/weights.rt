@@ -5,7 +5,7 @@ ghost use Rattle.rules.specs.Eliminate.{resolve_permitted, expand_permitted};
 ghost use Rattle.table.specs.Table.{counts_of};
 ghost use Rattle.index.specs.Study.{Studied, Study};
 ghost use Rattle.choice.specs.Chosen.{Ranks, Ranked};
-ghost use Rattle.reasons.specs.Reason.{ofVariables, within, why_existential, why_universal};
+ghost use Rattle.reasons.specs.Reason.{of_variables, within, why_existential, why_universal};
 ghost use Rattle.reasoning.specs.Whys.{why_as, limit_or};
 
 use crate::Why;
@@ -16,7 +16,7 @@ use weigh::{resolved_counts, weight_of};
 
 // The first limit that a result with these counts passes, or the entry of its step. The variables need so many numbers.
 fn limit_or(numbers: usize, d: Counts, entry: u32) -> Why
-    ensures { (ψ : Formula) → d ≡ counts_of ψ d.second → within ofVariables ψ ≡ leb numbers 1023 → result ≡ limit_or ψ entry }
+    ensures { (ψ : Formula) → d ≡ counts_of ψ d.second → within of_variables ψ ≡ leb numbers 1023 → result ≡ limit_or ψ entry }
 {
     if Counts::VARIABLES < numbers {
         return Why::OverVariables;

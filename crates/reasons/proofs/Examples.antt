@@ -16,7 +16,7 @@ use Rattle.rules.specs.Entry.{unit, resolve, expand, code, uses_b, entry}
 use Rattle.rules.specs.Step.{permitted, raw_of, result_of}
 use Rattle.rules.specs.Choice.{costly, light, wanted, allowed_call, blocked_call, indices, variables, firsts, seconds, or_else, first_b, first_pair, lighter, lightest, candidate, any_blocked, take_found, choose_of, choose}
 use Rattle.rules.specs.Run.{next_of, next}
-use Rattle.reasons.specs.Reason.{ofVariables, ofClauses, ofLiterals, Reason, verdict, nextEntry, ownEntry, too_far_right, notLighter, between, tooHeavy, universal_after, existential_after, far_part, reaches_far, first_index, far_clause, leftmost_in, far_variable, within, first_limit, why_existential, why_universal, why_left, reason_at, reason_of}
+use Rattle.reasons.specs.Reason.{of_variables, of_clauses, of_literals, Reason, verdict, next_entry, own_entry, too_far_right, not_lighter, between, too_heavy, universal_after, existential_after, far_part, reaches_far, first_index, far_clause, leftmost_in, far_variable, within, first_limit, why_existential, why_universal, why_left, reason_at, reason_of}
 
 abbrev make : List ℕ → List (List ℕ) → Formula
 make p cs = record { prefix = p; clauses = cs }
@@ -53,19 +53,19 @@ rows =
     record { formula = make (2 ∷ []) []; allowance = 0; variable = 1; reason = verdict true } ∷
     record { formula = make (2 ∷ []) ([] ∷ []); allowance = 0; variable = 1; reason = verdict false } ∷
     -- `e 1 2`, (1 2)(-2): whatever the variable, the run's next entry is unit of clause 1
-    record { formula = make (2 ∷ 4 ∷ []) ((2 ∷ 4 ∷ []) ∷ (5 ∷ []) ∷ []); allowance = 0; variable = 1; reason = nextEntry (entry unit 1 0) } ∷
+    record { formula = make (2 ∷ 4 ∷ []) ((2 ∷ 4 ∷ []) ∷ (5 ∷ []) ∷ []); allowance = 0; variable = 1; reason = next_entry (entry unit 1 0) } ∷
     -- resolving 4 counts, though the run would take 2
-    record { formula = sums; allowance = 0; variable = 4; reason = ownEntry (entry resolve 4 0) } ∷
+    record { formula = sums; allowance = 0; variable = 4; reason = own_entry (entry resolve 4 0) } ∷
     -- expanding 1 takes the weight from 12 to 14: it counts with E = 2, and not with E = 1
-    record { formula = one; allowance = 2; variable = 1; reason = ownEntry (entry expand 1 0) } ∷
-    record { formula = one; allowance = 1; variable = 1; reason = tooHeavy 12 14 } ∷
+    record { formula = one; allowance = 2; variable = 1; reason = own_entry (entry expand 1 0) } ∷
+    record { formula = one; allowance = 1; variable = 1; reason = too_heavy 12 14 } ∷
     -- clause 0 has 3 with 4, which stands left of the universal 2; clause 1 has not 3; clause 2 has it with 1 and 2, which do not stand
     -- left of 2. Of these the leftmost is the universal itself
     record { formula = far; allowance = 0; variable = 3; reason = too_far_right 2 2 2 } ∷
     record { formula = far; allowance = 0; variable = 4; reason = too_far_right 1 1 2 } ∷
     -- clause 0 has 1 with 3, which stands right of 2
     record { formula = further; allowance = 0; variable = 1; reason = too_far_right 0 3 2 } ∷
-    record { formula = sums; allowance = 0; variable = 1; reason = notLighter 37 44 } ∷
+    record { formula = sums; allowance = 0; variable = 1; reason = not_lighter 37 44 } ∷
     -- right of 5 stand the universal 2, then the existential 3, which is the leftmost, and the universal 1
     record { formula = blocks; allowance = 1000; variable = 5; reason = between 3 1 } ∷
     []
@@ -83,6 +83,6 @@ wide =
     make (2048 ∷ []) (replicate 8192 (2 ∷ [])) ∷
     []
 
-limits : map first_limit wide ≡ ofVariables ∷ ofClauses ∷ ofLiterals ∷ ofVariables ∷ []
+limits : map first_limit wide ≡ of_variables ∷ of_clauses ∷ of_literals ∷ of_variables ∷ []
 unfolding first_limit within literals all_of var
 limits = refl

@@ -11,7 +11,7 @@ use Rattle.meaning.specs.WellFormed.{well_formed, fits, weight}
 use Rattle.rules.specs.Entry.{Kind, unit, pure, subsume, strengthen, equality, resolve, expand, code, uses_b, entry, Call, bad, call, read_entry}
 use Rattle.rules.specs.Step.{permitted, result_of}
 use Rattle.rules.specs.Choice.{costly, light, wanted, allowed_call, blocked_call, on_call, allowed, blocked, stuck, choose}
-use Rattle.rules.specs.Run.{End, isTRUE, isFALSE, finished, outOfRoom, ended, over, step, next_of, next, logged, onward, run_from}
+use Rattle.rules.specs.Run.{End, true_end, false_end, finished, out_of_room, ended, over, step, next_of, next, logged, onward, run_from}
 use Rattle.reasons.specs.Reason.{Limit, Reason, over_limit, first_limit, why_existential, why_universal, why_left, reason_at, reason_of}
 use Rattle.reasons.specs.Statement.{Verdict, NextEntry, Quiet, OverLimit, Says, keeps}
 use Rattle.meaning.proofs.Basics.{by_cases, clash, false_of, and_l, and_r, eqb-true}
@@ -30,10 +30,10 @@ use Rattle.reasons.proofs.Reasons.{reason-true, reason-is}
 
 -- an end that is no verdict: FINISHED or OUT OF ROOM
 unfoldable pub without-verdict : End → Bool
-without-verdict isTRUE = false
-without-verdict isFALSE = false
+without-verdict true_end = false
+without-verdict false_end = false
 without-verdict finished = true
-without-verdict outOfRoom = true
+without-verdict out_of_room = true
 
 module _ (E : ℕ) (φ : Formula) (f : fits φ ≡ true) (v : ℕ) where
   -- where no entry counts, the variable's own does not
@@ -61,10 +61,10 @@ module _ (E : ℕ) (φ : Formula) (f : fits φ ≡ true) (v : ℕ) where
   -- In a FINISHED or OUT OF ROOM formula the reason is neither a verdict nor an entry.
   pub left-reason : (e : End) → without-verdict e ≡ true → next E φ ≡ over e → keeps (reason_of E φ v) ≡ true
   unfolding without-verdict reason_of reason_at
-  left-reason isTRUE o h = absurd (false≢true o)
-  left-reason isFALSE o h = absurd (false≢true o)
+  left-reason true_end o h = absurd (false≢true o)
+  left-reason false_end o h = absurd (false≢true o)
   left-reason finished o h = rw h (left-keeps (stuck-none E φ false (next-over E φ finished h)))
-  left-reason outOfRoom o h = rw h (left-keeps (stuck-none E φ true (next-over E φ outOfRoom h)))
+  left-reason out_of_room o h = rw h (left-keeps (stuck-none E φ true (next-over E φ out_of_room h)))
 
 -- So in the formula that a run leaves at FINISHED or OUT OF ROOM every variable left has a reason that is no entry.
 pub run-left : (E n : ℕ) (φ : Formula) → well_formed φ ≡ true → fits φ ≡ true → (e : End) → without-verdict e ≡ true → (run_from E n φ).outcome ≡ ended e
@@ -133,11 +133,11 @@ module _ (E : ℕ) (φ : Formula) (w : well_formed φ ≡ true) (f : fits φ ≡
       (costly-inside φ k v c p, reason-is E φ w f v (over_limit (first_limit (result_of φ k v 0))) s)
 
   -- At OUT OF ROOM one variable's is.
-  pub room-limit : next E φ ≡ over outOfRoom → (v : ℕ) × (l : Limit) × (mentions φ.prefix v ≡ true) × (reason_of E φ v ≡ over_limit l)
+  pub room-limit : next E φ ≡ over out_of_room → (v : ℕ) × (l : Limit) × (mentions φ.prefix v ≡ true) × (reason_of E φ v ≡ over_limit l)
   room-limit h = go (read_entry b.0) refl (unfold blocked in b.1)
     where
       c : choose E φ ≡ stuck true
-      c = next-over E φ outOfRoom h
+      c = next-over E φ out_of_room h
 
       b : (e : ℕ) × (blocked E φ e ≡ true)
       b = stuck-room E φ f c

@@ -10,7 +10,7 @@ use Rattle.meaning.specs.WellFormed.{well_formed, fits, weight}
 use Rattle.rules.specs.Entry.{Kind, unit, pure, subsume, strengthen, equality, resolve, expand, code, uses_b, entry, call, read_entry}
 use Rattle.rules.specs.Step.{permitted, result_of}
 use Rattle.rules.specs.Choice.{costly, light, wanted, allowed_call, on_call, allowed}
-use Rattle.reasons.specs.Reason.{Limit, first_limit, ownEntry, too_far_right, notLighter, between, tooHeavy, over_limit, far_clause, far_variable, universal_after, existential_after, why_existential, why_universal, why_left}
+use Rattle.reasons.specs.Reason.{Limit, first_limit, own_entry, too_far_right, not_lighter, between, too_heavy, over_limit, far_clause, far_variable, universal_after, existential_after, why_existential, why_universal, why_left}
 use Rattle.reasons.specs.Statement.{Quiet, OwnEntry, TooFarRight, NotLighter, Between, TooHeavy, PassesFirst, OverLimit, Says}
 use Rattle.meaning.proofs.Basics.{by_cases, clash, false_of}
 use Rattle.meaning.proofs.Prefix.{one-kind}
@@ -49,7 +49,7 @@ parts E φ k v c t r x y = rw (c, x, y)
 -- What the definition gives, by what the step is: it counts; it is not permitted; it is not light enough; it only does not fit.
 -- Code goes by these -----------------------------------------------------------------------------------------------
 module _ (E : ℕ) (φ : Formula) (v : ℕ) where
-  pub existential-counts : allowed_call E φ resolve v 0 ≡ true → why_existential E φ v ≡ ownEntry (entry resolve v 0)
+  pub existential-counts : allowed_call E φ resolve v 0 ≡ true → why_existential E φ v ≡ own_entry (entry resolve v 0)
   unfolding why_existential
   existential-counts h = rw h
 
@@ -58,7 +58,7 @@ module _ (E : ℕ) (φ : Formula) (v : ℕ) where
   existential-far p = rw (parts E φ resolve v refl false _ p refl, p)
 
   pub existential-heavy : permitted φ resolve v 0 ≡ true → light E resolve (weight φ) (weight (result_of φ resolve v 0)) ≡ false
-      → why_existential E φ v ≡ notLighter (weight φ) (weight (result_of φ resolve v 0))
+      → why_existential E φ v ≡ not_lighter (weight φ) (weight (result_of φ resolve v 0))
   unfolding why_existential costly
   existential-heavy p l = rw (parts E φ resolve v refl true false p l, p, l)
 
@@ -67,7 +67,7 @@ module _ (E : ℕ) (φ : Formula) (v : ℕ) where
   unfolding why_existential costly
   existential-limit p l f = rw (parts E φ resolve v refl true true p l, p, l, f)
 
-  pub universal-counts : allowed_call E φ expand v 0 ≡ true → why_universal E φ v ≡ ownEntry (entry expand v 0)
+  pub universal-counts : allowed_call E φ expand v 0 ≡ true → why_universal E φ v ≡ own_entry (entry expand v 0)
   unfolding why_universal
   universal-counts h = rw h
 
@@ -76,7 +76,7 @@ module _ (E : ℕ) (φ : Formula) (v : ℕ) where
   universal-between p = rw (parts E φ expand v refl false _ p refl, p)
 
   pub universal-heavy : permitted φ expand v 0 ≡ true → light E expand (weight φ) (weight (result_of φ expand v 0)) ≡ false
-      → why_universal E φ v ≡ tooHeavy (weight φ) (weight (result_of φ expand v 0))
+      → why_universal E φ v ≡ too_heavy (weight φ) (weight (result_of φ expand v 0))
   unfolding why_universal costly
   universal-heavy p l = rw (parts E φ expand v refl true false p l, p, l)
 
@@ -146,14 +146,14 @@ module _ (E : ℕ) (φ : Formula) (w : well_formed φ ≡ true) (v : ℕ) where
   unfolding permitted
   expanded h = of-universal (expand-says φ v h).forall
 
-  pub own-only : (e : ℕ) → OwnEntry E φ v e → why_left E φ v ≡ ownEntry e
+  pub own-only : (e : ℕ) → OwnEntry E φ v e → why_left E φ v ≡ own_entry e
   unfolding code
   own-only e s = go s.kind s.of-6-or-7 s.calls
     where
       call-counts : (k : Kind) → read_entry e ≡ call k v 0 → allowed_call E φ k v 0 ≡ true
       call-counts k r = unfold allowed on_call in (rw r at s.counts)
 
-      go : (k : Kind) → 6 ≤ code k → read_entry e ≡ call k v 0 → why_left E φ v ≡ ownEntry e
+      go : (k : Kind) → 6 ≤ code k → read_entry e ≡ call k v 0 → why_left E φ v ≡ own_entry e
       go unit h r = absurd (omega arith)
       go pure h r = absurd (omega arith)
       go subsume h r = absurd (omega arith)
@@ -161,17 +161,17 @@ module _ (E : ℕ) (φ : Formula) (w : well_formed φ ≡ true) (v : ℕ) where
       go equality h r = absurd (omega arith)
       go resolve h r =
           resolved (entry-permitted E φ e resolve v 0 r s.counts)
-          ∙ (existential-counts E φ v (call-counts resolve r) ∙ ap ownEntry (entry_read e resolve v 0 r).number)
+          ∙ (existential-counts E φ v (call-counts resolve r) ∙ ap own_entry (entry_read e resolve v 0 r).number)
       go expand h r =
           expanded (entry-permitted E φ e expand v 0 r s.counts)
-          ∙ (universal-counts E φ v (call-counts expand r) ∙ ap ownEntry (entry_read e expand v 0 r).number)
+          ∙ (universal-counts E φ v (call-counts expand r) ∙ ap own_entry (entry_read e expand v 0 r).number)
 
   pub far-reason : (i y u : ℕ) → TooFarRight φ v i y u → why_left E φ v ≡ too_far_right i y u
   far-reason i y u s =
       let o : OnlyFar φ w v i y u = far-only φ w v i y u s in
       of-existential s.exists ∙ (existential-far E φ v o.forbidden ∙ rw (o.clause, o.variable, o.universal))
 
-  pub lighter-reason : (m n : ℕ) → NotLighter φ v m n → why_left E φ v ≡ notLighter m n
+  pub lighter-reason : (m n : ℕ) → NotLighter φ v m n → why_left E φ v ≡ not_lighter m n
   lighter-reason m n s =
       let l : weight φ ≤ weight (result_of φ resolve v 0) = rw (s.before, s.after) at s.no-fall in
       resolved s.may ∙ (existential-heavy E φ v s.may (not-light E _ _ l) ∙ rw (← s.before, ← s.after))
@@ -181,7 +181,7 @@ module _ (E : ℕ) (φ : Formula) (w : well_formed φ ≡ true) (v : ℕ) where
       let o : OnlyBetween φ w v e u = between-only φ w v e u s in
       of-universal s.forall ∙ (universal-between E φ v o.forbidden ∙ rw (o.exists, o.forall))
 
-  pub heavy-reason : (m n : ℕ) → TooHeavy E φ v m n → why_left E φ v ≡ tooHeavy m n
+  pub heavy-reason : (m n : ℕ) → TooHeavy E φ v m n → why_left E φ v ≡ too_heavy m n
   heavy-reason m n s =
       let l : weight φ + E < weight (result_of φ expand v 0) = rw (s.before, s.after) at s.rise in
       expanded s.may ∙ (universal-heavy E φ v s.may (too-heavy E _ _ l) ∙ rw (← s.before, ← s.after))

@@ -12,7 +12,7 @@ use Rattle.meaning.specs.WellFormed.{well_formed, fits}
 use Rattle.rules.specs.Entry.{Kind, unit, pure, subsume, strengthen, equality, resolve, expand, code, uses_b, entry, call, read_entry}
 use Rattle.rules.specs.Step.{permitted}
 use Rattle.rules.specs.Choice.{costly, light, wanted, allowed_call, on_call, allowed, none, candidate, Choice, take_step, stuck, choose}
-use Rattle.rules.specs.Run.{isTRUE, isFALSE, over, next_of, next}
+use Rattle.rules.specs.Run.{true_end, false_end, over, next_of, next}
 use Rattle.rules.proofs.Ahead.{left_of, pair_before, ahead}
 use Rattle.rules.proofs.First.{First, choose-first}
 use Rattle.reasons.specs.Statement.{NoVerdict, NextEntry, Quiet}
@@ -95,13 +95,13 @@ pub open_next : (E : ℕ) (φ : Formula) → NoVerdict φ → next E φ ≡ next
 unfolding next
 open_next E φ n = rw (n.none-empty, n.some-clause)
 
-pub verdict-or : (E : ℕ) (φ : Formula) → (next E φ ≡ over isTRUE → ⊥) → (next E φ ≡ over isFALSE → ⊥) → NoVerdict φ
+pub verdict-or : (E : ℕ) (φ : Formula) → (next E φ ≡ over true_end → ⊥) → (next E φ ≡ over false_end → ⊥) → NoVerdict φ
 unfolding next
 verdict-or E φ t f = go (empty_clause φ.clauses) (no_clause φ.clauses) refl refl t f
   where
     go : (s r : Bool) → empty_clause φ.clauses ≡ s → no_clause φ.clauses ≡ r
-        → (cond s (over isFALSE) (cond r (over isTRUE) (next_of (choose E φ))) ≡ over isTRUE → ⊥)
-        → (cond s (over isFALSE) (cond r (over isTRUE) (next_of (choose E φ))) ≡ over isFALSE → ⊥)
+        → (cond s (over false_end) (cond r (over true_end) (next_of (choose E φ))) ≡ over true_end → ⊥)
+        → (cond s (over false_end) (cond r (over true_end) (next_of (choose E φ))) ≡ over false_end → ⊥)
         → NoVerdict φ
     go true r a b t f = absurd (f refl)
     go false true a b t f = absurd (t refl)

@@ -11,7 +11,7 @@ use Rattle.rules.specs.Step.{permitted, result_of}
 use Rattle.rules.specs.Choice.{light, allowed}
 use Rattle.rules.proofs.Ahead.{left_of}
 use Rattle.rules.proofs.First.{First}
-use Rattle.reasons.specs.Reason.{Limit, ofVariables, ofClauses, ofLiterals, within, Reason, verdict, nextEntry, ownEntry, too_far_right, notLighter, between, tooHeavy, over_limit}
+use Rattle.reasons.specs.Reason.{Limit, of_variables, of_clauses, of_literals, within, Reason, verdict, next_entry, own_entry, too_far_right, not_lighter, between, too_heavy, over_limit}
 
 -- Before the variable is looked at -------------------------------------------------------------------------------
 -- TRUE: there is no clause; FALSE: there is an empty one
@@ -101,9 +101,9 @@ pub record TooHeavy (E : ℕ) (φ : Formula) (u m n : ℕ) : Type 0 where
 -- Limits ---------------------------------------------------------------------------------------------------------
 -- the formula passes the limit, and none of those before it
 abbrev pub PassesFirst : Formula → Limit → Type 0
-PassesFirst ψ ofVariables = within ofVariables ψ ≡ false
-PassesFirst ψ ofClauses = (within ofVariables ψ ≡ true) × (within ofClauses ψ ≡ false)
-PassesFirst ψ ofLiterals = (within ofVariables ψ ≡ true) × (within ofClauses ψ ≡ true) × (within ofLiterals ψ ≡ false)
+PassesFirst ψ of_variables = within of_variables ψ ≡ false
+PassesFirst ψ of_clauses = (within of_variables ψ ≡ true) × (within of_clauses ψ ≡ false)
+PassesFirst ψ of_literals = (within of_variables ψ ≡ true) × (within of_clauses ψ ≡ true) × (within of_literals ψ ≡ false)
 
 -- the step of kind 6 or 7 on v may be taken, its weight is light enough, and its result passes the limit l first
 pub record OverLimit (E : ℕ) (φ : Formula) (v : ℕ) (l : Limit) : Type 0 where
@@ -117,21 +117,21 @@ pub record OverLimit (E : ℕ) (φ : Formula) (v : ℕ) (l : Limit) : Type 0 whe
 -- What the reason r for the variable v says ----------------------------------------------------------------------
 abbrev pub Says : ℕ → Formula → ℕ → Reason → Type 0
 Says E φ v (verdict b) = Verdict φ b
-Says E φ v (nextEntry e) = NextEntry E φ e
-Says E φ v (ownEntry e) = OwnEntry E φ v e
+Says E φ v (next_entry e) = NextEntry E φ e
+Says E φ v (own_entry e) = OwnEntry E φ v e
 Says E φ v (too_far_right i y u) = TooFarRight φ v i y u
-Says E φ v (notLighter m n) = NotLighter φ v m n
+Says E φ v (not_lighter m n) = NotLighter φ v m n
 Says E φ v (between e w) = Between φ v e w
-Says E φ v (tooHeavy m n) = TooHeavy E φ v m n
+Says E φ v (too_heavy m n) = TooHeavy E φ v m n
 Says E φ v (over_limit l) = OverLimit E φ v l
 
 -- the reason is neither a verdict nor an entry: it names what keeps the variable
 unfoldable pub keeps : Reason → Bool
 keeps (verdict b) = false
-keeps (nextEntry e) = false
-keeps (ownEntry e) = false
+keeps (next_entry e) = false
+keeps (own_entry e) = false
 keeps (too_far_right i y u) = true
-keeps (notLighter m n) = true
+keeps (not_lighter m n) = true
 keeps (between e w) = true
-keeps (tooHeavy m n) = true
+keeps (too_heavy m n) = true
 keeps (over_limit l) = true

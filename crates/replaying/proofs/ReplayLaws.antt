@@ -5,7 +5,7 @@ use mathlib.Core.List.{List}
 use Prim.Native.Nat.{ℕ}
 use Rattle.judging.specs.declared.Asked.TheVariants as said
 use Rattle.replaying.specs.declared.stepping.StepAnswer.TheVariants as says
-use Rattle.rules.specs.Step.{entryBad, notPermitted, noRoom}
+use Rattle.rules.specs.Step.{entry_bad, not_permitted, no_room}
 use Rattle.rules.specs.Run as rules
 use Rattle.rules.specs.Run.{all_applied, refused_by, replay_bytes}
 use Rattle.judging.specs.Check.{asked}
@@ -21,9 +21,9 @@ use Rattle.replaying.specs.declared.replays.Replayed.{Replayed}
 stop-back : (s : rules.Stop) → stop_back (stop_as s) ≡ stop_answer s
 unfolding stop_back stop_as stop_answer refusal_answer
 stop-back all_applied = refl
-stop-back (refused_by entryBad) = refl
-stop-back (refused_by notPermitted) = refl
-stop-back (refused_by noRoom) = refl
+stop-back (refused_by entry_bad) = refl
+stop-back (refused_by not_permitted) = refl
+stop-back (refused_by no_room) = refl
 
 module _ (a b : List ℕ) (c : Counts) (log : List ℕ) (s : Asked) (q : s ≡ asked a b c) where
   pub replays-length : s ≡ said.WrongLength → Replays a b c log (record { answer = says.Length; counts = c; applied = 0 }) a b

@@ -7,7 +7,7 @@ use Prim.Native.Nat.{ℕ}
 use Rattle.rules.specs.Step as rules
 use Rattle.judging.specs.declared.Asked.TheVariants as said
 use Rattle.replaying.specs.declared.stepping.StepAnswer.TheVariants as says
-use Rattle.rules.specs.Step.{Refusal, entryBad, notPermitted, noRoom, refused, stepped, step_of}
+use Rattle.rules.specs.Step.{Refusal, entry_bad, not_permitted, no_room, refused, stepped, step_of}
 use Rattle.judging.specs.Check.{asked}
 use Rattle.table.specs.declared.Counts.{Counts}
 use Rattle.judging.specs.declared.Asked.{Asked}
@@ -24,9 +24,9 @@ unfolding given_back stepping_as step_answer step_counts
 given-back c (refused y) = refusal y
   where
     refusal : (y : Refusal) → given_back (refused_as y) c ≡ record { answer = refusal_answer y; counts = c }
-    refusal entryBad = unfold given_back refused_as refusal_answer in refl
-    refusal notPermitted = unfold given_back refused_as refusal_answer in refl
-    refusal noRoom = unfold given_back refused_as refusal_answer in refl
+    refusal entry_bad = unfold given_back refused_as refusal_answer in refl
+    refusal not_permitted = unfold given_back refused_as refusal_answer in refl
+    refusal no_room = unfold given_back refused_as refusal_answer in refl
 given-back c (stepped ψ) = refl
 
 module _ (a b : List ℕ) (c : Counts) (e : ℕ) (s : Asked) (q : s ≡ asked a b c) where

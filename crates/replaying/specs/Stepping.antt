@@ -7,7 +7,7 @@ use Rattle.judging.specs.declared.Asked.TheVariants as said
 use Rattle.apply.specs.declared.Stepping.TheVariants as came
 use Rattle.replaying.specs.declared.stepping.StepAnswer.TheVariants as says
 use Rattle.meaning.specs.Formula.{Formula}
-use Rattle.rules.specs.Step.{Refusal, entryBad, notPermitted, noRoom, refused, stepped, step_of}
+use Rattle.rules.specs.Step.{Refusal, entry_bad, not_permitted, no_room, refused, stepped, step_of}
 use Rattle.table.specs.Table.{counts_of}
 use Rattle.judging.specs.Check.{asked}
 use Rattle.table.specs.declared.Counts.{Counts}
@@ -29,9 +29,9 @@ step_number says.NoRoom = 11
 
 -- One call, by what is said of the tables and by what comes of the step -----------------------------------------
 unfoldable pub refusal_answer : Refusal → StepAnswer
-refusal_answer entryBad = says.BadEntry
-refusal_answer notPermitted = says.NotPermitted
-refusal_answer noRoom = says.NoRoom
+refusal_answer entry_bad = says.BadEntry
+refusal_answer not_permitted = says.NotPermitted
+refusal_answer no_room = says.NoRoom
 
 unfoldable pub step_answer : rules.StepAnswer → StepAnswer
 step_answer (refused y) = refusal_answer y

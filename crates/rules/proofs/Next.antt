@@ -10,7 +10,7 @@ use Rattle.meaning.specs.Game.{empty_clause, truth, is_true, no_clause}
 use Rattle.rules.specs.Entry.{Kind, entry}
 use Rattle.rules.specs.Step.{result_of, stepped, step_of}
 use Rattle.rules.specs.Choice.{allowed_call, Choice, take_step, stuck, choose}
-use Rattle.rules.specs.Run.{End, isTRUE, isFALSE, finished, outOfRoom, ended, stopped, over, step, next_of, next, step_bound}
+use Rattle.rules.specs.Run.{End, true_end, false_end, finished, out_of_room, ended, stopped, over, step, next_of, next, step_bound}
 use Rattle.meaning.proofs.Verdict.{none_true, empty-clause-false}
 use Rattle.rules.proofs.Entries.{Fields, entry-small}
 use Rattle.rules.proofs.Bound.{bound-falls}
@@ -31,7 +31,7 @@ next-step E φ k a b h = go (empty_clause φ.clauses) (no_clause φ.clauses) (ch
     told : {j : Kind} {x y : ℕ} → step j x y ≡ step k a b → take_step j x y ≡ take_step k a b
     told q = cc
 
-    go : (s t : Bool) (c : Choice) → choose E φ ≡ c → cond s (over isFALSE) (cond t (over isTRUE) (next_of c)) ≡ step k a b → choose E φ ≡ take_step k a b
+    go : (s t : Bool) (c : Choice) → choose E φ ≡ c → cond s (over false_end) (cond t (over true_end) (next_of c)) ≡ step k a b → choose E φ ≡ take_step k a b
     go true t c e i = over-step _ k a b i
     go false true c e i = over-step _ k a b i
     go false false (take_step j x y) e i = e ∙ told i
@@ -40,9 +40,9 @@ next-step E φ k a b h = go (empty_clause φ.clauses) (no_clause φ.clauses) (ch
 
 -- why a run ends
 abbrev pub Why : ℕ → Formula → End → Type 0
-Why E φ isTRUE = no_clause φ.clauses ≡ true
-Why E φ isFALSE = empty_clause φ.clauses ≡ true
-Why E φ outOfRoom = choose E φ ≡ stuck true
+Why E φ true_end = no_clause φ.clauses ≡ true
+Why E φ false_end = empty_clause φ.clauses ≡ true
+Why E φ out_of_room = choose E φ ≡ stuck true
 Why E φ finished = choose E φ ≡ stuck false
 
 pub next-over : (E : ℕ) (φ : Formula) (e : End) → next E φ ≡ over e → Why E φ e
@@ -53,11 +53,11 @@ next-over E φ e h = go (empty_clause φ.clauses) (no_clause φ.clauses) (choose
     is d y q = let z : d ≡ e = cc in subst (Why E φ) z y
 
     go : (s t : Bool) (c : Choice) → empty_clause φ.clauses ≡ s → no_clause φ.clauses ≡ t → choose E φ ≡ c
-        → cond s (over isFALSE) (cond t (over isTRUE) (next_of c)) ≡ over e → Why E φ e
-    go true t c x y z i = is isFALSE x i
-    go false true c x y z i = is isTRUE y i
+        → cond s (over false_end) (cond t (over true_end) (next_of c)) ≡ over e → Why E φ e
+    go true t c x y z i = is false_end x i
+    go false true c x y z i = is true_end y i
     go false false (take_step j a b) x y z i = over-step e j a b (sym i)
-    go false false (stuck true) x y z i = is outOfRoom z i
+    go false false (stuck true) x y z i = is out_of_room z i
     go false false (stuck false) x y z i = is finished z i
 
 no-clause : (cs : List (List ℕ)) → no_clause cs ≡ true → cs ≡ []
@@ -66,13 +66,13 @@ no-clause [] h = refl
 no-clause (c ∷ cs) h = absurd (false≢true h)
 
 -- the verdict that an end gives
-pub end-true : (E : ℕ) (φ : Formula) → next E φ ≡ over isTRUE → is_true φ ≡ true
+pub end-true : (E : ℕ) (φ : Formula) → next E φ ≡ over true_end → is_true φ ≡ true
 unfolding is_true
-end-true E φ h = ap (λ (cs : List (List ℕ)). truth φ.prefix cs (λ _. false)) (no-clause φ.clauses (next-over E φ isTRUE h)) ∙ none_true φ.prefix (λ _. false)
+end-true E φ h = ap (λ (cs : List (List ℕ)). truth φ.prefix cs (λ _. false)) (no-clause φ.clauses (next-over E φ true_end h)) ∙ none_true φ.prefix (λ _. false)
 
-pub end-false : (E : ℕ) (φ : Formula) → next E φ ≡ over isFALSE → is_true φ ≡ false
+pub end-false : (E : ℕ) (φ : Formula) → next E φ ≡ over false_end → is_true φ ≡ false
 unfolding is_true
-end-false E φ h = empty-clause-false φ.prefix φ.clauses (next-over E φ isFALSE h) (λ _. false)
+end-false E φ h = empty-clause-false φ.prefix φ.clauses (next-over E φ false_end h) (λ _. false)
 
 -- One step of a run ------------------------------------------------------------------------------------------
 pub record Going (E : ℕ) (φ : Formula) (k : Kind) (a b : ℕ) : Type 0 where

@@ -9,7 +9,7 @@ use Rattle.meaning.specs.WellFormed.{fits, well_formed}
 use Rattle.meaning.specs.Game.{is_true}
 use Rattle.rules.specs.Entry.{entry, log_bytes}
 use Rattle.rules.specs.Choice.{allowed, blocked}
-use Rattle.rules.specs.Run.{End, isTRUE, isFALSE, finished, outOfRoom, ended, stopped, Next, over, step, next, Ran, run_from, step_bound, all_applied, replay_bytes}
+use Rattle.rules.specs.Run.{End, true_end, false_end, finished, out_of_room, ended, stopped, Next, over, step, next, Ran, run_from, step_bound, all_applied, replay_bytes}
 use Rattle.rules.proofs.Kept.{Kept}
 use Rattle.rules.proofs.Chosen.{takes-allowed}
 use Rattle.rules.proofs.Runs.{run-kept, run-replay-bytes, run_length, run-limit, run-true, run-false, run-finished, run-no-room, run-stopped, run_ends}
@@ -21,10 +21,10 @@ pub record RunRight (E n : ℕ) (φ : Formula) (r : Ran) : Type 0 where
   pub replays : replay_bytes φ (log_bytes r.log) ≡ record { stop = all_applied; formula = r.final; applied = length r.log }
   pub few : length r.log ≤ step_bound E φ
   pub limit : length r.log ≤ n
-  pub says-true : r.outcome ≡ ended isTRUE → is_true φ ≡ true
-  pub says-false : r.outcome ≡ ended isFALSE → is_true φ ≡ false
+  pub says-true : r.outcome ≡ ended true_end → is_true φ ≡ true
+  pub says-false : r.outcome ≡ ended false_end → is_true φ ≡ false
   pub says-finished : r.outcome ≡ ended finished → (e : ℕ) → (allowed E r.final e ≡ false) × (blocked E r.final e ≡ true → ⊥)
-  pub says-no-room : r.outcome ≡ ended outOfRoom → ((e : ℕ) → allowed E r.final e ≡ false) × ((e : ℕ) × (blocked E r.final e ≡ true))
+  pub says-no-room : r.outcome ≡ ended out_of_room → ((e : ℕ) → allowed E r.final e ≡ false) × ((e : ℕ) × (blocked E r.final e ≡ true))
   pub says-stopped : r.outcome ≡ stopped → (length r.log ≡ n) × ((e : ℕ) × (allowed E r.final e ≡ true))
   pub ends : step_bound E φ ≤ n → r.outcome ≡ stopped → ⊥
 

@@ -14,7 +14,7 @@ use Rattle.meaning.specs.Game.{is_true}
 use Rattle.rules.specs.Entry.{Kind, entry, log_bytes}
 use Rattle.rules.specs.Step.{result_of}
 use Rattle.rules.specs.Choice.{allowed, blocked, stuck, choose}
-use Rattle.rules.specs.Run.{End, isTRUE, isFALSE, finished, outOfRoom, ended, stopped, Next, over, step, next, Ran, ran_nothing, logged, halt, onward, run_from, step_bound, all_applied, Replayed, replayed_none, one_applied, replay_on, replay, replay_read, replay_bytes, Outcome}
+use Rattle.rules.specs.Run.{End, true_end, false_end, finished, out_of_room, ended, stopped, Next, over, step, next, Ran, ran_nothing, logged, halt, onward, run_from, step_bound, all_applied, Replayed, replayed_none, one_applied, replay_on, replay, replay_read, replay_bytes, Outcome}
 use Rattle.meaning.proofs.Basics.{and_i}
 use Rattle.rules.proofs.Entries.{log-bytes}
 use Rattle.rules.proofs.Replays.{replay-part, replay-kept}
@@ -116,11 +116,11 @@ run-stopped E =
     (λ φ k a b h j. (refl, λ e i. over-step e k a b (sym i ∙ h))) (λ n φ k a b h ih j. (ap suc (ih j).0, (ih j).1))
 
 -- TRUE and FALSE are the truth of the start
-pub run-true : (E n : ℕ) (φ : Formula) → well_formed φ ≡ true → fits φ ≡ true → (run_from E n φ).outcome ≡ ended isTRUE → is_true φ ≡ true
-run-true E n φ w f h = sym (kept-true φ (run_from E n φ).final (run-kept E n φ w f)) ∙ end-true E (run_from E n φ).final (run-rest E n φ isTRUE h)
+pub run-true : (E n : ℕ) (φ : Formula) → well_formed φ ≡ true → fits φ ≡ true → (run_from E n φ).outcome ≡ ended true_end → is_true φ ≡ true
+run-true E n φ w f h = sym (kept-true φ (run_from E n φ).final (run-kept E n φ w f)) ∙ end-true E (run_from E n φ).final (run-rest E n φ true_end h)
 
-pub run-false : (E n : ℕ) (φ : Formula) → well_formed φ ≡ true → fits φ ≡ true → (run_from E n φ).outcome ≡ ended isFALSE → is_true φ ≡ false
-run-false E n φ w f h = sym (kept-true φ (run_from E n φ).final (run-kept E n φ w f)) ∙ end-false E (run_from E n φ).final (run-rest E n φ isFALSE h)
+pub run-false : (E n : ℕ) (φ : Formula) → well_formed φ ≡ true → fits φ ≡ true → (run_from E n φ).outcome ≡ ended false_end → is_true φ ≡ false
+run-false E n φ w f h = sym (kept-true φ (run_from E n φ).final (run-kept E n φ w f)) ∙ end-false E (run_from E n φ).final (run-rest E n φ false_end h)
 
 -- FINISHED: no entry counts, and none fails only for room; OUT OF ROOM: none counts, and one fails only for room
 pub run-finished : (E n : ℕ) (φ : Formula) → (run_from E n φ).outcome ≡ ended finished → (e : ℕ)
@@ -129,8 +129,8 @@ run-finished E n φ h e =
     let c : choose E (run_from E n φ).final ≡ stuck false = next-over E (run_from E n φ).final finished (run-rest E n φ finished h) in
     (stuck-none E (run_from E n φ).final false c e, λ b. false≢true (stuck-blocked E (run_from E n φ).final false c e b))
 
-pub run-no-room : (E n : ℕ) (φ : Formula) → well_formed φ ≡ true → fits φ ≡ true → (run_from E n φ).outcome ≡ ended outOfRoom
+pub run-no-room : (E n : ℕ) (φ : Formula) → well_formed φ ≡ true → fits φ ≡ true → (run_from E n φ).outcome ≡ ended out_of_room
     → ((e : ℕ) → allowed E (run_from E n φ).final e ≡ false) × ((e : ℕ) × (blocked E (run_from E n φ).final e ≡ true))
 run-no-room E n φ w f h =
-    let c : choose E (run_from E n φ).final ≡ stuck true = next-over E (run_from E n φ).final outOfRoom (run-rest E n φ outOfRoom h) in
+    let c : choose E (run_from E n φ).final ≡ stuck true = next-over E (run_from E n φ).final out_of_room (run-rest E n φ out_of_room h) in
     (stuck-none E (run_from E n φ).final true c, stuck-room E (run_from E n φ).final (run-kept E n φ w f).room c)

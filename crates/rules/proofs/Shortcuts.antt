@@ -10,7 +10,7 @@ use Rattle.meaning.specs.WellFormed.{literals, fits}
 use Rattle.rules.specs.Simplify.{clause_at, is_clause, without_lit, assign, becomes_true, occurs, pure_permitted, pure_lit, pure_raw, subsume_permitted, replace_at, subsume_raw}
 use Rattle.rules.specs.Eliminate.{with_lit, without_var, from_universal, avoids, near_side, resolve_permitted, resolvents_of, resolvents, resolve_raw, all_exist, universals_first, expand_permitted, inner, fresh, rename_var, rename_lit, touching, others, expand_with, expand_raw}
 use Rattle.rules.specs.Entry.{Kind, pure, subsume, resolve, expand, code, uses_b, entry, kind_at, call, call_of, read_entry}
-use Rattle.rules.specs.Step.{permitted, raw_of, result_of, notPermitted, StepAnswer, refused, stepped, in_room, step_call, step_of}
+use Rattle.rules.specs.Step.{permitted, raw_of, result_of, not_permitted, StepAnswer, refused, stepped, in_room, step_call, step_of}
 
 abbrev make : List ℕ → List (List ℕ) → Formula
 make p cs = record { prefix = p; clauses = cs }
@@ -29,9 +29,9 @@ rows =
     -- `a 1 e 2`, (1 2)(1 -2), pure 1: the universal's literal becomes false
     record { formula = make (3 ∷ 4 ∷ []) ((2 ∷ 4 ∷ []) ∷ (2 ∷ 5 ∷ []) ∷ []); kind = pure; a = 1; b = 0; gives = stepped (make (4 ∷ []) ((4 ∷ []) ∷ (5 ∷ []) ∷ [])) } ∷
     -- `e 1 a 2 e 3`, (2 -3)(-2 3)(-1 3)(1 -3), resolve 1: 3 stands right of the universal 2
-    record { formula = make (2 ∷ 5 ∷ 6 ∷ []) ((4 ∷ 7 ∷ []) ∷ (5 ∷ 6 ∷ []) ∷ (3 ∷ 6 ∷ []) ∷ (2 ∷ 7 ∷ []) ∷ []); kind = resolve; a = 1; b = 0; gives = refused notPermitted } ∷
+    record { formula = make (2 ∷ 5 ∷ 6 ∷ []) ((4 ∷ 7 ∷ []) ∷ (5 ∷ 6 ∷ []) ∷ (3 ∷ 6 ∷ []) ∷ (2 ∷ 7 ∷ []) ∷ []); kind = resolve; a = 1; b = 0; gives = refused not_permitted } ∷
     -- `e 1 2`, (1 2)(1), subsume 0, 1: clause 0 is no part of clause 1
-    record { formula = make (2 ∷ 4 ∷ []) ((2 ∷ 4 ∷ []) ∷ (2 ∷ []) ∷ []); kind = subsume; a = 0; b = 1; gives = refused notPermitted } ∷
+    record { formula = make (2 ∷ 4 ∷ []) ((2 ∷ 4 ∷ []) ∷ (2 ∷ []) ∷ []); kind = subsume; a = 0; b = 1; gives = refused not_permitted } ∷
     []
 
 shortcuts : map (λ (r : Row). step_of r.formula (entry r.kind r.a r.b)) rows ≡ map (λ (r : Row). r.gives) rows

@@ -5,22 +5,22 @@ use Rattle.meaning.specs.Formula.{Formula}
 use Rattle.meaning.specs.Game.{empty_clause, no_clause}
 use Rattle.meaning.specs.WellFormed.{weight, universals}
 use Rattle.rules.specs.Entry.{Kind, entry, LogRead, bad_length, entries, read_log}
-use Rattle.rules.specs.Step.{result_of, Refusal, entryBad, StepAnswer, refused, stepped, step_of}
+use Rattle.rules.specs.Step.{result_of, Refusal, entry_bad, StepAnswer, refused, stepped, step_of}
 use Rattle.rules.specs.Choice.{Choice, take_step, stuck, choose}
 
 -- the ways in which a run ends, and their numbers
 pub data End : Type 0 where
-  isTRUE isFALSE finished outOfRoom : End
+  true_end false_end finished out_of_room : End
 
 pub data Outcome : Type 0 where
   ended : End → Outcome
   stopped : Outcome
 
 unfoldable pub end_number : End → ℕ
-end_number isTRUE = 20
-end_number isFALSE = 21
+end_number true_end = 20
+end_number false_end = 21
 end_number finished = 22
-end_number outOfRoom = 23
+end_number out_of_room = 23
 
 unfoldable pub outcome_number : Outcome → ℕ
 outcome_number (ended e) = end_number e
@@ -34,12 +34,12 @@ pub data Next : Type 0 where
 -- "No candidate: OUT OF ROOM exactly if a kind 6 or 7 step failed only for room, else FINISHED."
 unfoldable pub next_of : Choice → Next
 next_of (take_step k a b) = step k a b
-next_of (stuck true) = over outOfRoom
+next_of (stuck true) = over out_of_room
 next_of (stuck false) = over finished
 
 -- "At each point: an empty clause, FALSE; no clause, TRUE; else take the first kind in the order 1 to 7 with a candidate."
 unfoldable pub next : ℕ → Formula → Next
-next E φ = cond (empty_clause φ.clauses) (over isFALSE) (cond (no_clause φ.clauses) (over isTRUE) (next_of (choose E φ)))
+next E φ = cond (empty_clause φ.clauses) (over false_end) (cond (no_clause φ.clauses) (over true_end) (next_of (choose E φ)))
 
 pub record Ran : Type 0 where
   pub outcome : Outcome
@@ -102,7 +102,7 @@ replay φ (e ∷ es) = replay_on (λ ψ. replay ψ es) φ (step_of φ e)
 
 -- "log length not a multiple of 4 (before any step)" is BAD ENTRY
 unfoldable pub replay_read : Formula → LogRead → Replayed
-replay_read φ bad_length = replayed_none (refused_by entryBad) φ
+replay_read φ bad_length = replayed_none (refused_by entry_bad) φ
 replay_read φ (entries es) = replay φ es
 
 unfoldable pub replay_bytes : Formula → List ℕ → Replayed

@@ -32,12 +32,12 @@ result_of φ k a b = tidied (raw_of φ k a b)
 
 -- the refusals of a step, and their numbers
 pub data Refusal : Type 0 where
-  entryBad notPermitted noRoom : Refusal
+  entry_bad not_permitted no_room : Refusal
 
 unfoldable pub refusal_number : Refusal → ℕ
-refusal_number entryBad = 12
-refusal_number notPermitted = 10
-refusal_number noRoom = 11
+refusal_number entry_bad = 12
+refusal_number not_permitted = 10
+refusal_number no_room = 11
 
 pub data StepAnswer : Type 0 where
   refused : Refusal → StepAnswer
@@ -45,12 +45,12 @@ pub data StepAnswer : Type 0 where
 
 -- "NO ROOM exactly if the result passes a limit; a copy numbered over 1,023 passes that of variables."
 unfoldable pub in_room : Formula → StepAnswer
-in_room ψ = cond (fits ψ) (stepped ψ) (refused noRoom)
+in_room ψ = cond (fits ψ) (stepped ψ) (refused no_room)
 
 -- "Order: .. 12, 10, 11"
 unfoldable pub step_call : Formula → Call → StepAnswer
-step_call φ bad = refused entryBad
-step_call φ (call k a b) = cond (permitted φ k a b) (in_room (result_of φ k a b)) (refused notPermitted)
+step_call φ bad = refused entry_bad
+step_call φ (call k a b) = cond (permitted φ k a b) (in_room (result_of φ k a b)) (refused not_permitted)
 
 -- "A step is called by its entry."
 unfoldable pub step_of : Formula → ℕ → StepAnswer

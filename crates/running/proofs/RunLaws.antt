@@ -8,7 +8,7 @@ use lib.ListN.{length}
 use Rattle.judging.specs.declared.Asked.TheVariants as said
 use Rattle.running.specs.declared.runs.RunAnswer.TheVariants as says
 use Rattle.rules.specs.Run as rules
-use Rattle.rules.specs.Run.{isTRUE, isFALSE, finished, outOfRoom, ended, stopped}
+use Rattle.rules.specs.Run.{true_end, false_end, finished, out_of_room, ended, stopped}
 use Rattle.judging.specs.Check.{asked}
 use Rattle.table.specs.declared.Counts.{Counts}
 use Rattle.judging.specs.declared.Asked.{Asked}
@@ -21,10 +21,10 @@ use Rattle.running.specs.declared.runs.Ran.{Ran}
 
 answer-back : (o : rules.Outcome) → answer_back (outcome_as o) ≡ outcome_answer o
 unfolding answer_back outcome_as outcome_answer
-answer-back (ended isTRUE) = refl
-answer-back (ended isFALSE) = refl
+answer-back (ended true_end) = refl
+answer-back (ended false_end) = refl
 answer-back (ended finished) = refl
-answer-back (ended outOfRoom) = refl
+answer-back (ended out_of_room) = refl
 answer-back stopped = refl
 
 module _ (a b : List ℕ) (c : Counts) (E limit : ℕ) (log : List ℕ) (s : Asked) (q : s ≡ asked a b c) where

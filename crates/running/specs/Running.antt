@@ -7,7 +7,7 @@ use Rattle.course.specs.declared.Outcome.TheVariants as came
 use Rattle.running.specs.declared.runs.RunAnswer.TheVariants as says
 use Rattle.rules.specs.Entry.{log_bytes}
 use Rattle.rules.specs.Run as rules
-use Rattle.rules.specs.Run.{isTRUE, isFALSE, finished, outOfRoom, ended, stopped}
+use Rattle.rules.specs.Run.{true_end, false_end, finished, out_of_room, ended, stopped}
 use Rattle.table.specs.Table.{counts_of}
 use Rattle.judging.specs.Check.{asked}
 use Rattle.table.specs.declared.Counts.{Counts}
@@ -31,10 +31,10 @@ run_number says.Malformed = 2
 run_number says.Allowance = 13
 
 unfoldable pub outcome_answer : rules.Outcome → RunAnswer
-outcome_answer (ended isTRUE) = says.True
-outcome_answer (ended isFALSE) = says.False
+outcome_answer (ended true_end) = says.True
+outcome_answer (ended false_end) = says.False
 outcome_answer (ended finished) = says.Finished
-outcome_answer (ended outOfRoom) = says.OutOfRoom
+outcome_answer (ended out_of_room) = says.OutOfRoom
 outcome_answer stopped = says.Stopped
 
 -- What is said of a call: "Order: 1, 2, 13", and "E over 1,000" is ALLOWANCE -----------------------------------

@@ -4,7 +4,7 @@ use Prim.Native.Nat.{◌-◌, ◌/◌}
 use mathlib.Core.Path.{◌≡◌, refl, ◌∙◌}
 use lib.ListN.{length}
 use Rattle.meaning.specs.Formula.{Formula}
-use Rattle.rules.specs.Step.{entryBad, notPermitted, noRoom}
+use Rattle.rules.specs.Step.{entry_bad, not_permitted, no_room}
 use Rattle.apply.specs.Applied.{refused_as}
 use Rattle.apply.proofs.StepLaws.{nothing_known}
 use Rattle.course.specs.Course.{Here, stop_as}
@@ -89,7 +89,7 @@ returns-2 c =
     let t = f.before.before in
     let k = t.before in
     λ φ l. let a = k.loop.invariant.2 φ (lends-here l (k.before.before.before.before.before.before.clear-spare.ensures φ l)) in
-    rw c.ended2.ensures (along-refused a t.loop-test.true f.first_entry.ensures st.step.ensures entryBad c.before.enum_told.given.1)
+    rw c.ended2.ensures (along-refused a t.loop-test.true f.first_entry.ensures st.step.ensures entry_bad c.before.enum_told.given.1)
 
 enum-told-2 : tie.Need-enum-told-2 invariant-loop decreases-loop
 enum-told-2 c = search rules
@@ -111,7 +111,7 @@ returns-3 c =
     let t = f.before.before in
     let k = t.before in
     λ φ l. let a = k.loop.invariant.2 φ (lends-here l (k.before.before.before.before.before.before.clear-spare.ensures φ l)) in
-    rw c.ended3.ensures (along-refused a t.loop-test.true f.first_entry.ensures st.step.ensures notPermitted c.before.enum-told2.given.1)
+    rw c.ended3.ensures (along-refused a t.loop-test.true f.first_entry.ensures st.step.ensures not_permitted c.before.enum-told2.given.1)
 
 enum-told-3 : tie.Need-enum-told-3 invariant-loop decreases-loop
 enum-told-3 c = search rules
@@ -133,7 +133,7 @@ returns-4 c =
     let t = f.before.before in
     let k = t.before in
     λ φ l. let a = k.loop.invariant.2 φ (lends-here l (k.before.before.before.before.before.before.clear-spare.ensures φ l)) in
-    rw c.ended4.ensures (along-refused a t.loop-test.true f.first_entry.ensures st.step.ensures noRoom c.before.enum-told3.given.1)
+    rw c.ended4.ensures (along-refused a t.loop-test.true f.first_entry.ensures st.step.ensures no_room c.before.enum-told3.given.1)
 
 add-n : tie.Need-overflow-add-n invariant-loop decreases-loop
 add-n c = search rules
