@@ -1,4 +1,6 @@
 // Which step the run takes next (document 01, "The run").
+#![tactic(auto)]
+
 mod ahead;
 mod kinds;
 mod lightest;
@@ -7,7 +9,7 @@ mod searched;
 pub use kinds::choose;
 
 // How a run ends by itself.
-#[derive(Drop)]
+#[derive(Clone, Copy)]
 pub enum End {
     True,
     False,
@@ -16,28 +18,28 @@ pub enum End {
 }
 
 // The run is over, or takes the step with this entry.
-#[derive(Drop)]
+#[derive(Clone, Copy)]
 pub enum Next {
     Over(End),
     Step(u32),
 }
 
 // What the run does next, and how many of the first clauses of the result were searched: kinds 3 and 4 have no candidate among them.
-#[derive(Drop)]
+#[derive(Clone, Copy)]
 pub struct Chosen {
     pub next: Next,
     pub searched: usize,
 }
 
 // Of the steps of kind 6 or 7: none counts, and whether one failed only for room; or the variable of the lightest.
-#[derive(Drop)]
+#[derive(Clone, Copy)]
 pub enum Best {
     Nothing(bool),
     Lightest(usize),
 }
 
 // The best so far, and the weight that a result must stay below to be better.
-#[derive(Drop)]
+#[derive(Clone, Copy)]
 pub struct Standing {
     pub best: Best,
     pub below: usize,

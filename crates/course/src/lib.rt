@@ -1,4 +1,6 @@
 // The run and the replay, on two lent tables (document 01, "The run").
+#![tactic(auto)]
+
 use table::Counts;
 
 mod between;
@@ -10,7 +12,7 @@ pub use replays::replay;
 pub use runs::run;
 
 // How a run ends.
-#[derive(Drop)]
+#[derive(Clone, Copy)]
 pub enum Outcome {
     True,
     False,
@@ -20,7 +22,7 @@ pub enum Outcome {
 }
 
 // What a run gives back: the outcome, the record of the final formula, the number of steps.
-#[derive(Drop)]
+#[derive(Clone, Copy)]
 pub struct Running {
     pub outcome: Outcome,
     pub counts: Counts,
@@ -28,7 +30,7 @@ pub struct Running {
 }
 
 // How a replay ends: all entries are applied, or the first one that is refused.
-#[derive(Drop)]
+#[derive(Clone, Copy)]
 pub enum Stop {
     Applied,
     BadEntry,
@@ -37,7 +39,7 @@ pub enum Stop {
 }
 
 // What a replay gives back: how it ends, the record of the formula after the entries applied, their number.
-#[derive(Drop)]
+#[derive(Clone, Copy)]
 pub struct Replaying {
     pub stop: Stop,
     pub counts: Counts,

@@ -1,4 +1,6 @@
 // Step 7, expand, from one lent table into the other.
+#![tactic(auto)]
+
 mod copies;
 mod expanding;
 

@@ -15,7 +15,7 @@ use table::{Counts, zero};
 // counts; the lowest clause with a variable too far right, its leftmost such variable, and the first universal right of the asked one; the
 // weight, and the weight after resolving; the existential and the universal after it that block a universal; the weight, and the weight
 // after expanding; the limit that the result would pass first. Then the refusals.
-#[derive(Drop)]
+#[derive(Clone, Copy)]
 pub enum ReasonAnswer {
     True,
     False,
@@ -60,7 +60,7 @@ impl ReasonAnswer {
 }
 
 // The answer, and the record of what the tables hold after it: always as it was lent.
-#[derive(Drop)]
+#[derive(Clone, Copy)]
 pub struct Reasoned {
     pub answer: ReasonAnswer,
     pub counts: Counts,

@@ -1,4 +1,6 @@
 // Why a variable is left (request 2), asked of two lent tables; and a reason as numbers.
+#![tactic(auto)]
+
 mod explains;
 mod values;
 

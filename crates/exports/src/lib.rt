@@ -1,6 +1,8 @@
 // The face for C and C++, as include/rimhlada.h declares it. A slice crosses as a pointer and a length; the record crosses as five
 // numbers: the three counts, the table that holds the formula (0 the first, 1 the second), and one that is given back with the record.
 // A fourth number over 1 is MALFORMED.
+#![tactic(auto)]
+
 mod records;
 
 ghost use Rattle.std.specs.Prelude.{◌≡◌};

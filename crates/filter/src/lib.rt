@@ -2,6 +2,8 @@
 // lacks is new, and is added without a search. The filter has 8 words, 512 bits: most steps put few stamps in, and where there are many
 // the clauses are looked for all the same.
 // A filter may also have the stamps of some clauses of the table only. It then serves a clause that is none of the others.
+#![tactic(auto)]
+
 ghost use Rattle.std.specs.Prelude.{◌≡◌, ℕ, true, false, List, length};
 ghost use Rattle.meaning.specs.Lists.{any_of, same};
 ghost use Rattle.meaning.specs.Formula.{Formula};

@@ -1,4 +1,6 @@
 // Flags: a bit for each number, 64 of them to a word. They take little room, and the next one that is raised is found by words.
+#![tactic(auto)]
+
 ghost use Rattle.std.specs.Prelude.{◌≡◌, ℕ, ◌+◌, ◌*◌, ◌/◌, ◌%◌, ◌^◌, ◌≤◌, ◌<◌, true, false, length};
 ghost use Rattle.flags.specs.Flags.{flag, raised};
 

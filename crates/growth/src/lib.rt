@@ -1,5 +1,7 @@
 // Step 7, expand: what its result would weigh, without building it: a sum over the clauses. Where no clause is a part of another, no two
 // clauses of the result are equal and none loses more than the universal, so that the sum is exact.
+#![tactic(auto)]
+
 ghost use Rattle.std.specs.Prelude.{◌≡◌, ℕ, ◌≤◌, ◌<◌, true, List, length, drop};
 ghost use Rattle.meaning.specs.Formula.{Formula, mentions};
 ghost use Rattle.meaning.specs.WellFormed.{well_formed};
@@ -16,7 +18,7 @@ use table::{Counts, clause_at};
 
 // What is said of a result of step 6 or 7: it is not lighter than the bound, or the step is not permitted; it is lighter, weighs so much and
 // fits; it is lighter and passes a limit.
-#[derive(Drop)]
+#[derive(Clone, Copy)]
 pub enum Weighed {
     Over,
     Fitting(usize),
@@ -24,7 +26,7 @@ pub enum Weighed {
 }
 
 // What becomes of a clause: it stays; it loses the universal; it stands twice.
-#[derive(Drop)]
+#[derive(Clone, Copy)]
 pub enum Share {
     Stays,
     Loses,
@@ -32,7 +34,7 @@ pub enum Share {
 }
 
 // How many clauses and literals.
-#[derive(Drop)]
+#[derive(Clone, Copy)]
 pub struct Size {
     pub clauses: usize,
     pub literals: usize,

@@ -1,6 +1,8 @@
 // Adding a clause that stands in the front of a scratch, with hints where an equal one may be. Hints are numbers of clauses; they stand in
 // the scratch from 64 on, at a place told by the clause's literals. A hinted clause is compared before it is believed, so nothing has to be
 // known of the hints: whatever the scratch holds there, the table becomes the same.
+#![tactic(auto)]
+
 ghost use Rattle.std.specs.Prelude.{◌≡◌, ℕ, ◌+◌, ◌≤◌, ◌<◌, true, List, length, take};
 ghost use Rattle.meaning.specs.Lists.{any_of, same};
 ghost use Rattle.meaning.specs.Formula.{Formula};

@@ -1,4 +1,6 @@
 // The occurrence index of a formula: for each literal the clauses that have it, and then the signatures of the clauses, in the idle table.
+#![tactic(auto)]
+
 mod fill;
 mod lists;
 mod signs;

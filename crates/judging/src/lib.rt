@@ -1,4 +1,6 @@
 // Whether a lent table is what its record says, and well formed.
+#![tactic(auto)]
+
 mod check;
 mod layout;
 mod literals;
@@ -8,7 +10,7 @@ pub use layout::layout_ok;
 pub use literals::{literals_answer, literals_part};
 
 // What is said of a call that looks at both lent tables.
-#[derive(Drop)]
+#[derive(Clone, Copy)]
 pub enum Asked {
     Given,
     WrongLength,

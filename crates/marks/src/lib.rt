@@ -1,5 +1,7 @@
 // Adding clauses to a table with marks beside it: a clause is compared only with those that have the same slot, so that adding
 // takes no longer the more clauses there are. The marks stand in a lent slice as long as a work table.
+#![tactic(auto)]
+
 ghost use Rattle.std.specs.Prelude.{◌≡◌, ℕ, ◌<◌, true, List, [], ◌∷◌, ◌++◌, length};
 ghost use Rattle.meaning.specs.Lists.{any_of, same};
 ghost use Rattle.meaning.specs.Formula.{Formula};

@@ -1,4 +1,6 @@
 // Two clauses merged into one ascending list in a lent scratch, each without one literal.
+#![tactic(auto)]
+
 ghost use Rattle.std.specs.Prelude.{◌≡◌, ◌+◌, ◌<◌, length, drop};
 ghost use Rattle.table.specs.Pending.{Pends};
 ghost use Rattle.merging.specs.Merging.{head_of, joined, Ordered, Merges};
@@ -6,7 +8,7 @@ ghost use Rattle.merging.specs.Merging.{head_of, joined, Ordered, Merges};
 use table::Pending;
 
 // How far it has come: in the first clause, in the second, and in the scratch; and whether both phases of a variable were met.
-#[derive(Drop)]
+#[derive(Clone, Copy)]
 pub struct Merging {
     pub first: usize,
     pub second: usize,

@@ -1,4 +1,6 @@
 // Which steps are permitted, decided on a work table that holds a formula; and the log entries that call them.
+#![tactic(auto)]
+
 mod entries;
 mod equalities;
 mod expansion;
@@ -22,7 +24,7 @@ pub use subsumption::subsume_permitted;
 pub use units::{literal_at, unit_literal, unit_permitted};
 
 // What a log entry says: it is bad, or it calls a step.
-#[derive(Drop)]
+#[derive(Clone, Copy)]
 pub enum Call {
     Bad,
     Unit(usize),
@@ -35,14 +37,14 @@ pub enum Call {
 }
 
 // By which literal of the first clause the second is strengthened.
-#[derive(Drop)]
+#[derive(Clone, Copy)]
 pub enum Strengthens {
     By(u16),
     No,
 }
 
 // A literal, and the one that it becomes everywhere.
-#[derive(Drop)]
+#[derive(Clone, Copy)]
 pub struct Replacement {
     pub old: u16,
     pub new: u16,

@@ -1,5 +1,7 @@
 // The program: a formula in QDIMACS on standard input; a run with E = 0, and room for 8,192 steps; the outcome, the number of
 // steps and the formula that is left on standard output. What is refused in reading is printed as `r`, number and offset.
+#![tactic(auto)]
+
 use rimhlada::{Counts, Reading, RunAnswer};
 use shows::say;
 

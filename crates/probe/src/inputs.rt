@@ -7,7 +7,7 @@ use rimhlada::Counts;
 use shows::{fill, take_long, take_word};
 
 // The first fifty bytes: the operation, the record, the two numbers; then the first table's length, and how many numbers follow.
-#[derive(Drop)]
+#[derive(Clone, Copy)]
 pub struct Head {
     pub operation: u8,
     pub side: u8,

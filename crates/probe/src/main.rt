@@ -1,5 +1,7 @@
 // The library over pipes: calls of the face on standard input, one after the other until the input ends, and a result for each on
 // standard output. docs/PROBE.md has the protocol.
+#![tactic(auto)]
+
 mod calls;
 mod inputs;
 mod numbers;

@@ -2,7 +2,9 @@
 // written over these enums, so that the code needs no translation. In the definitions their numbers may have any size.
 
 // What a token is: `p`, `cnf`, `e`, `a`, a numeral, a minus and a numeral other than 0, or anything else.
-#[derive(Drop)]
+#![tactic(auto)]
+
+#[derive(Clone, Copy)]
 pub enum Word {
     P,
     Cnf,
@@ -15,7 +17,7 @@ pub enum Word {
 
 // What may come next: `p`; `cnf`; M; C; a quantifier line or the first clause; the first variable of a line (0 for `e`, 1 for
 // `a`); a further variable of a line or its `0`; a literal, or the `0` of a clause; nothing, after C clauses.
-#[derive(Drop)]
+#[derive(Clone, Copy)]
 pub enum Phase {
     AtP,
     AtCnf,
@@ -30,7 +32,7 @@ pub enum Phase {
 
 // What a token does: it is a fault with this number, it leads to another phase, it tells M or C, it adds an entry to the
 // prefix, it adds a literal to the open clause, or it closes that clause.
-#[derive(Drop)]
+#[derive(Clone, Copy)]
 pub enum Move {
     Fault(u8),
     Go(Phase),

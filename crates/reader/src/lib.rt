@@ -1,4 +1,6 @@
 // The reader: a text to the work table of the formula that it writes, tidied (document 01, "Reading and writing").
+#![tactic(auto)]
+
 ghost use Rattle.reader.specs.Reading.{read_number, answer_for, refusal, Reads};
 ghost use Rattle.std.specs.Prelude.{◌≡◌};
 
@@ -8,7 +10,7 @@ use table::{Counts, zero};
 mod turns;
 
 // What is said of a text: it was read, or why not.
-#[derive(Drop)]
+#[derive(Clone, Copy)]
 pub enum ReadAnswer {
     Read,
     Length,
@@ -41,7 +43,7 @@ impl ReadAnswer {
 }
 
 // The answer, the offset of a fault, and the counts of the formula read.
-#[derive(Drop)]
+#[derive(Clone, Copy)]
 pub struct Reading {
     pub answer: ReadAnswer,
     pub offset: usize,

@@ -19,7 +19,7 @@ use table::Counts;
 use tracks::{Reader, Stepped, apply, is_complete};
 
 // A text was read, and its formula has these counts; or it was refused with this number, at this offset.
-#[derive(Drop)]
+#[derive(Clone, Copy)]
 pub enum Outcome {
     Taken(Counts),
     Refused(u8, usize),

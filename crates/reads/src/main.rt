@@ -1,5 +1,7 @@
 // Reads stored texts, and writes for each: the answer's number, the offset, the three counts, some numbers of the first table,
 // and how many numbers of each table are not zero. Both tables are dirty before each reading.
+#![tactic(auto)]
+
 use rimhlada::Reading;
 use shows::{used, word};
 

@@ -1,4 +1,6 @@
 // Why a variable is left (request 2), decided on a work table that holds a formula.
+#![tactic(auto)]
+
 mod behind;
 mod explaining;
 mod far;
@@ -13,7 +15,7 @@ pub use variables::has_variable;
 // which counts. TooFarRight: a clause, its variable that is too far right, the first universal right of the variable. NotLighter: the
 // weight, and that after resolving. Between: the existential and the universal after it that block a universal. TooHeavy: the weight, and
 // that after expanding. Over..: the limit that the result would pass first.
-#[derive(Drop)]
+#[derive(Clone, Copy)]
 pub enum Why {
     True,
     False,

@@ -12,7 +12,7 @@ use recipes::{Turn, Which, is_left, is_taken};
 use table::{Counts, Pushed, clause_at, push_clause};
 
 // What came of one clause: it is copied or not taken, it changes and is left to others, or the target is full.
-#[derive(Drop)]
+#[derive(Clone, Copy)]
 pub enum Copied {
     On(Counts),
     Changes,
@@ -20,7 +20,7 @@ pub enum Copied {
 }
 
 // All clauses before this one are done; the target is full.
-#[derive(Drop)]
+#[derive(Clone, Copy)]
 pub enum Lead {
     Upto(usize, Counts),
     Over,

@@ -1,4 +1,6 @@
 // A formula rebuilt by a recipe, from one lent table into the other.
+#![tactic(auto)]
+
 mod leading;
 mod prefixes;
 mod rebuilding;

@@ -1,10 +1,12 @@
 // Recipes: which clauses of a formula are taken, and what becomes of their literals.
+#![tactic(auto)]
+
 mod recipes;
 
 pub use recipes::{feed, is_left, is_taken, leaves_none};
 
 // Which clauses of the source are taken.
-#[derive(Drop)]
+#[derive(Clone, Copy)]
 pub enum Which {
     // all; all but one
     All,
@@ -18,7 +20,7 @@ pub enum Which {
 }
 
 // What becomes of the literals of a clause.
-#[derive(Drop)]
+#[derive(Clone, Copy)]
 pub enum Turn {
     Same,
     // a literal leaves every clause; it leaves one clause

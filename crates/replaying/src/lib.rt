@@ -1,4 +1,6 @@
 // One step over two lent tables, and the steps of a log, one after the other.
+#![tactic(auto)]
+
 mod replays;
 mod stepping;
 

@@ -9,7 +9,7 @@ use table::Counts;
 
 // The answer (Done where all entries are applied, else the first refusal), the record of what the tables hold after it, and the
 // number of entries applied.
-#[derive(Drop)]
+#[derive(Clone, Copy)]
 pub struct Replayed {
     pub answer: StepAnswer,
     pub counts: Counts,

@@ -7,7 +7,7 @@ use judging::{Asked, literals_answer};
 use table::Counts;
 
 // What comes of a step, or of a replay. No refusal: Done.
-#[derive(Drop)]
+#[derive(Clone, Copy)]
 pub enum StepAnswer {
     Done,
     Length,
@@ -34,7 +34,7 @@ impl StepAnswer {
 }
 
 // The answer, and the record of what the tables hold after it.
-#[derive(Drop)]
+#[derive(Clone, Copy)]
 pub struct Stepped {
     pub answer: StepAnswer,
     pub counts: Counts,

@@ -1,4 +1,6 @@
 // Step 6, resolve, from one lent table into the other.
+#![tactic(auto)]
+
 mod pairs;
 mod resolving;
 

@@ -1,4 +1,6 @@
 // The face: the public operations and nothing else.
+#![tactic(auto)]
+
 pub use explaining::{ReasonAnswer, Reasoned, reason, reason_kind, reason_values};
 pub use reader::{ReadAnswer, Reading, read};
 pub use replaying::{Replayed, StepAnswer, Stepped, replay, step};

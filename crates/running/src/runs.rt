@@ -7,7 +7,7 @@ use judging::{Asked, literals_answer};
 use table::Counts;
 
 // What comes of a call: how the run ends, or why it is refused.
-#[derive(Drop)]
+#[derive(Clone, Copy)]
 pub enum RunAnswer {
     True,
     False,
@@ -38,7 +38,7 @@ impl RunAnswer {
 }
 
 // The answer, the record of what the tables hold after it, and the number of steps taken.
-#[derive(Drop)]
+#[derive(Clone, Copy)]
 pub struct Ran {
     pub answer: RunAnswer,
     pub counts: Counts,

@@ -4,7 +4,7 @@ ghost use Rattle.qdimacs.specs.Bytes.{is_blank, preamble};
 ghost use Rattle.scan.specs.Scan.{token_start, token_end, next_in};
 
 // The next token of a text: where it starts and where it ends; or there is none.
-#[derive(Drop)]
+#[derive(Clone, Copy)]
 pub enum Next {
     Run(usize, usize),
     End,

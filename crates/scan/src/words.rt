@@ -10,7 +10,7 @@ use qdimacs::Word;
 const MOST: u16 = 2048;
 
 // The value of a numeral, cut off; or it is no numeral.
-#[derive(Drop)]
+#[derive(Clone, Copy)]
 pub enum Number {
     Value(u16),
     Not,

@@ -1,4 +1,6 @@
 // The candidates of kinds 1 to 5 in a run, found by the occurrence index.
+#![tactic(auto)]
+
 mod equalities;
 mod pures;
 mod rarity;
@@ -13,7 +15,7 @@ pub use subsumption::find_subsume;
 pub use units::find_unit;
 
 // No candidate, or the a and the b of the one that the run takes.
-#[derive(Drop)]
+#[derive(Clone, Copy)]
 pub enum Found {
     Nothing,
     Pair(usize, usize),

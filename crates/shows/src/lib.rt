@@ -1,5 +1,7 @@
 // What the programs that show the code at work share: texts put together in a buffer, numbers printed and taken from bytes, tables filled and
 // their used numbers counted.
+#![tactic(auto)]
+
 mod numbers;
 mod prints;
 mod tables;

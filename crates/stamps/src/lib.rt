@@ -1,5 +1,7 @@
 // Stamps of clauses in a filter. The filter is a slice of 1 to 512 words. A clause's stamp is a word of it, and two bits of that word,
 // told by the clause's literals. A clause whose stamp is not there was never put in, so it need not be looked for among those that were.
+#![tactic(auto)]
+
 ghost use Rattle.std.specs.Prelude.{◌≡◌, ◌≤◌, ◌<◌, length};
 ghost use Rattle.stamps.specs.Stamp.{hash_of, stamped, with_stamp};
 

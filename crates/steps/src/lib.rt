@@ -1,4 +1,6 @@
 // The steps of kinds 1 to 5, from one lent table into the other, and whether a call is permitted.
+#![tactic(auto)]
+
 mod deciding;
 mod kinds;
 

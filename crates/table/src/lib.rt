@@ -1,4 +1,6 @@
 // The work table: the layer between lists and the two lent tables. Everything above goes through these functions.
+#![tactic(auto)]
+
 ghost use Rattle.std.specs.Prelude.{◌≡◌, ◌+◌, ◌≤◌, ◌<◌, false};
 ghost use Rattle.table.specs.Pending.{empty_pending};
 ghost use Rattle.table.specs.Table.{empty_formula, counts_of, clause_more, variable_more};
@@ -19,7 +21,7 @@ pub use reduce::{all_stay, rank_of};
 pub use tests::{contains, equal, flip, part_of};
 
 // How much of a table is used, and which of the two lent tables it is.
-#[derive(Drop)]
+#[derive(Clone, Copy)]
 pub struct Counts {
     pub variables: usize,
     pub clauses: usize,
@@ -78,14 +80,14 @@ impl Counts {
 }
 
 // What comes of adding to a table.
-#[derive(Drop)]
+#[derive(Clone, Copy)]
 pub enum Pushed {
     Done(Counts),
     Full,
 }
 
 // A raw clause on its way into the table: how many literals of the scratch are its own, and whether both phases of a variable were seen.
-#[derive(Drop)]
+#[derive(Clone, Copy)]
 pub struct Pending {
     pub size: usize,
     pub both: bool,

@@ -1,4 +1,6 @@
 // Runs the functions on work tables and prints what comes of each.
+#![tactic(auto)]
+
 ghost use Rattle.std.specs.Prelude.{◌≡◌, length};
 ghost use Rattle.table.specs.Ready.{Ready};
 ghost use Rattle.table.specs.Table.{Held};
@@ -11,7 +13,7 @@ mod adding;
 mod showing;
 
 // A formula on its way into a table: the counts so far, and the clause so far.
-#[derive(Drop)]
+#[derive(Clone, Copy)]
 pub struct State {
     pub counts: Counts,
     pub pending: Pending,

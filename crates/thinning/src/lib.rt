@@ -1,4 +1,6 @@
 // Which clauses step 6 looks at.
+#![tactic(auto)]
+
 mod near;
 mod others;
 mod parts;

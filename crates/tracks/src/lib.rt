@@ -1,5 +1,7 @@
 // What each move does: to the record of the reader, to the table of the formula so far, to the scratch that holds the open
 // clause, to the ranks of the prefix, and to the marks of the clauses so far.
+#![tactic(auto)]
+
 ghost use Rattle.std.specs.Prelude.{◌≡◌, ℕ, ◌≤◌};
 ghost use Rattle.meaning.specs.WellFormed.{max_clauses};
 ghost use Rattle.qdimacs.specs.Read.{State, complete, after_clause};
@@ -11,7 +13,7 @@ use qdimacs::{Move, Phase};
 use table::{Counts, Pending, Pushed, add_rank, push_variable, put_literal};
 
 // What is read so far: the phase, M, C, the clauses closed, as written; the counts of the table, the open clause.
-#[derive(Drop)]
+#[derive(Clone, Copy)]
 pub struct Reader {
     pub phase: Phase,
     pub m: u16,
@@ -22,7 +24,7 @@ pub struct Reader {
 }
 
 // What comes of a move: a fault with this number, or the reader goes on.
-#[derive(Drop)]
+#[derive(Clone, Copy)]
 pub enum Stepped {
     Stop(u8),
     On(Reader),

@@ -1,5 +1,7 @@
 // Two ascending clauses, walked together: at each turn the lower of the two literals ahead is passed. Whether one is a part of the other,
 // and whether one strengthens the other, is found in one walk.
+#![tactic(auto)]
+
 ghost use Rattle.std.specs.Prelude.{◌≡◌, ℕ, true, List, length};
 ghost use Rattle.meaning.specs.Lists.{part_of};
 ghost use Rattle.meaning.specs.WellFormed.{ascends};

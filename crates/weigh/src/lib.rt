@@ -1,4 +1,6 @@
 // What the result of step 6 would weigh, without building it.
+#![tactic(auto)]
+
 mod counts;
 mod pairing;
 mod resolving;

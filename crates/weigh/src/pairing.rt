@@ -19,7 +19,7 @@ use table::{Counts, Pending};
 const FEW: usize = 8;
 
 // A pair by its number, and by the numbers of its clauses among the positive and among the negative ones.
-#[derive(Drop)]
+#[derive(Clone, Copy)]
 pub struct Pair {
     pub number: usize,
     pub row: usize,

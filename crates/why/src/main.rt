@@ -1,6 +1,8 @@
 // The program: a formula in QDIMACS on standard input, a run as in `prep`, and then how much is left and a sentence for each variable
 // of that, or for the one that the first argument names (0, as no argument: for each). The second argument is the allowance, 0 if there
 // is none. What is refused in reading is printed as `r`, number and offset.
+#![tactic(auto)]
+
 mod arguments;
 mod clauses;
 mod entries;

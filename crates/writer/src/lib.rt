@@ -1,5 +1,7 @@
 // Writing: the formula in the lent table that the record names, as QDIMACS, into a lent output. The size is counted first,
 // so that an output that is too short is refused before a byte of it is written.
+#![tactic(auto)]
+
 mod clauses;
 mod formula;
 
@@ -11,7 +13,7 @@ use judging::{Asked, literals_answer};
 use table::Counts;
 
 // What comes of a call. No refusal: Written.
-#[derive(Drop)]
+#[derive(Clone, Copy)]
 pub enum WriteAnswer {
     Written,
     Length,
@@ -34,7 +36,7 @@ impl WriteAnswer {
 }
 
 // The answer, and how many bytes of the output are the text; 0 for a refusal.
-#[derive(Drop)]
+#[derive(Clone, Copy)]
 pub struct Writing {
     pub answer: WriteAnswer,
     pub bytes: usize,
