@@ -9,7 +9,7 @@ use lib.Seq.{take_all, take-add}
 use native.Mathlib.Omega.{arith}
 use Rattle.meaning.specs.Lists.{all_of, up_from}
 use Rattle.meaning.specs.Formula.{Formula}
-use Rattle.meaning.specs.WellFormed.{ascends, well_formed, literals}
+use Rattle.meaning.specs.WellFormed.{ascends, well_formed}
 use Rattle.table.specs.Table.{all_literals, pad, Holds}
 use Rattle.table.specs.Ranks.{small}
 use Rattle.table.specs.declared.Counts.{Counts}

@@ -13,7 +13,7 @@ use native.Mathlib.Nat.{add-zero, add-suc}
 use native.Mathlib.Numerals.{add-one}
 use Rattle.meaning.specs.Lists.{all_of, has, up_from}
 use Rattle.meaning.specs.Formula.{Formula}
-use Rattle.meaning.specs.WellFormed.{ascends, bound, tidy_clause, well_formed, literals, fits, max_variables}
+use Rattle.meaning.specs.WellFormed.{ascends, bound, tidy_clause, well_formed, fits, max_variables}
 use Rattle.table.specs.Table.{pad}
 use Rattle.table.specs.Ranks.{small}
 use Rattle.table.specs.declared.Counts.{Counts}
