@@ -40,9 +40,9 @@ rename-in [] (f ∷ fs) k v h = absurd k
 rename-in (e ∷ es) [] k v h = absurd k
 rename-in (e ∷ es) (f ∷ fs) k v h =
     by_cases (is_var v e) (λ i. rw i (or-il _ _ (eqb-self f))) (λ i.
-      let r : rename_var (e ∷ es) (f ∷ fs) v ≡ rename_var es fs v = rw i in
-      let P : ℕ → Type 0 = λ y. has y (f ∷ fs) ≡ true in
-      subst P (sym r) (or-ir (eqb (rename_var es fs v) f) _ (rename-in es fs k.4 v (rw i at h))))
+    let r : rename_var (e ∷ es) (f ∷ fs) v ≡ rename_var es fs v = rw i in
+    let P : ℕ → Type 0 = λ y. has y (f ∷ fs) ≡ true in
+    subst P (sym r) (or-ir (eqb (rename_var es fs v) f) _ (rename-in es fs k.4 v (rw i at h))))
 
 -- a renamed variable is none of those that are neither a copy nor the variable itself
 rename-apart : (es fs : List ℕ) → Copies es fs → (v x : ℕ) → has x fs ≡ false → eqb v x ≡ false → eqb (rename_var es fs v) x ≡ false

@@ -9,7 +9,7 @@ use Rattle.meaning.specs.Tidy.{insert_new, ascending, both_phases, stays, reduce
 use Rattle.meaning.specs.WellFormed.{literals, fits}
 use Rattle.rules.specs.Simplify.{clause_at, is_clause, without_lit, assign, becomes_true, occurs, pure_permitted, pure_lit, pure_raw, subsume_permitted, replace_at, subsume_raw}
 use Rattle.rules.specs.Eliminate.{with_lit, without_var, from_universal, avoids, near_side, resolve_permitted, resolvents_of, resolvents, resolve_raw, all_exist, universals_first, expand_permitted, inner, fresh, rename_var, rename_lit, touching, others, expand_with, expand_raw}
-use Rattle.rules.specs.Entry.{Kind, pure, subsume, resolve, expand, code, uses_b, entry, kind_at, call, call_of, read_entry}
+use Rattle.rules.specs.Entry.{Kind, pure, subsume, resolve, expand, code, uses_b, entry, kind_at, call_of, read_entry}
 use Rattle.rules.specs.Step.{permitted, raw_of, result_of, not_permitted, StepAnswer, refused, stepped, in_room, step_call, step_of}
 
 abbrev make : List ℕ → List (List ℕ) → Formula

@@ -3,7 +3,7 @@
 use Prim.Native.Nat.{ℕ, zero, suc, ◌+◌, ◌-◌, ◌≤◌, ◌<◌}
 use mathlib.Core.Path.{◌≡◌, sym, ap, ◌∙◌}
 use mathlib.Core.List.{List, [], ◌∷◌, ◌++◌, append-nil}
-use lib.ListN.{length, get_or, take, drop, set, replicate, length-append, length-take, length-drop, drop_of_length-le}
+use lib.ListN.{length, get_or, take, drop, set, replicate, length-drop, drop_of_length-le}
 use lib.Seq.{drop-cons, take-suc, set_at, append_snoc, length-take-le, take_all, take-append-add, drop-append-add, get_or-append-add}
 use borrow.Rule.Slice.PartMut.{put_mid}
 use borrow.Author.Fill.{fill_more}

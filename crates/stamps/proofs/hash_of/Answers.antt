@@ -1,6 +1,5 @@
 -- The invariant: the literals that are left make the rest of the hash.
 -- Assumes nothing.
-use Prim.Native.Nat.{◌-◌}
 use mathlib.Core.Path.{refl}
 use native.Mathlib.Omega.{arith}
 use Rattle.meaning.proofs.Folds.{fold-turn, fold_end}

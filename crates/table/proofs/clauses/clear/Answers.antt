@@ -1,6 +1,5 @@
 -- The loop's invariant: zeros so far, the rest as it was.
 -- Assumes nothing.
-use Prim.Native.Nat.{◌-◌}
 use native.Mathlib.Omega.{arith}
 use lib.ListN.{length, length-set}
 use Rattle.table.proofs.ListLaws.{fill-turn, fill_end}

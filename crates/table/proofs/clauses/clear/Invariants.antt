@@ -1,6 +1,6 @@
 -- The loop's invariant: zeros so far, the rest as it was.
 -- Assumes nothing.
-use Prim.Native.Nat.{◌≤◌, ◌-◌, ◌+◌}
+use Prim.Native.Nat.{◌≤◌, ◌-◌}
 use mathlib.Core.Path.{◌≡◌}
 use mathlib.Core.List.{◌++◌}
 use lib.ListN.{length, drop, replicate}

@@ -30,27 +30,27 @@ pub slice_bounds-write_clause-start : goal.slice_bounds-write_clause-start
 slice_bounds-write_clause-start c = let b = bounds c.requires in omega arith
 
 pub write_clause-requires : goal.write_clause-requires
-write_clause-requires c = 
+write_clause-requires c =
     let b = bounds c.requires in
     simp (length-take, length-drop) (omega arith)
 
 pub overflow_cast-t : goal.overflow_cast-t
-overflow_cast-t c = 
+overflow_cast-t c =
     let b = bounds c.requires in
     omega arith
 
 pub bounds-t-e : goal.bounds-t-e
-bounds-t-e c = 
+bounds-t-e c =
     let b = bounds c.requires in
     let at = 3070 + c.args.c.literals in
     omega (arith, same_len_mid at (length c.args.t.now - at) c.args.t.now c.write_clause.new.tail c.write_clause.auto.tail)
 
 pub with_clause-requires : goal.with_clause-requires
-with_clause-requires c = 
+with_clause-requires c =
     let b = bounds c.requires in
     omega arith
 
 pub returns : goal.returns
-returns c = 
+returns c =
     let b = bounds c.requires in
     λ φ h. done-lent h _ c.write_clause.new.tail _ (omega arith) (omega arith) c.write_clause.ensures c.with_clause.ensures

@@ -1,6 +1,5 @@
 -- The loop's invariant: the front is copied, the rest is as it was.
 -- Assumes nothing.
-use Prim.Native.Nat.{◌-◌}
 use native.Mathlib.Omega.{arith}
 use lib.ListN.{length-set}
 use Rattle.table.proofs.ListLaws.{front-turn, front-end}

@@ -10,15 +10,14 @@ pub loop-j-init : goal.loop-j-init
 loop-j-init c = (place-within _ _ _ _ c.requires.0 c.requires.2, omega arith, refl, shift_none _ c.args.m)
 
 pub loop-j-preserved : goal.loop-j-preserved
-loop-j-preserved c = 
-    (
-      omega arith,
-      omega arith,
-      simp length-set c.loop-j.invariant.2,
-      shift-turn _ _ c.args.p _ _ c.loop-j.invariant.3 (omega arith) (omega arith) (omega arith),
-    )
+loop-j-preserved c = (
+  omega arith,
+  omega arith,
+  simp length-set c.loop-j.invariant.2,
+  shift-turn _ _ c.args.p _ _ c.loop-j.invariant.3 (omega arith) (omega arith) (omega arith),
+)
 
 pub returns : goal.returns
-returns c = 
+returns c =
     let e : c.loop-j.j ≡ c.args.p = omega arith in
     rw (rw e at c.loop-j.invariant.3) (insert-done _ _ _ _ c.requires.0 c.requires.2 c.requires.1)

@@ -1,6 +1,5 @@
 -- The loop's invariant: the place is from low to high.
 -- Assumes nothing.
-use Prim.Native.Nat.{◌-◌}
 use native.Mathlib.Omega.{arith}
 use Rattle.table.proofs.RisingLaws.{between-all, between-up, between-down, between-end}
 use Rattle.table.proofs.insert.place_in.Goals as goal

@@ -1,9 +1,6 @@
 -- The part of the table between two starts.
 -- Assumes nothing.
-use Prim.Native.Nat.{◌≤◌}
-use mathlib.Core.Path.{◌≡◌}
 use native.Mathlib.Omega.{arith}
-use lib.ListN.{length}
 use Rattle.table.proofs.HoldLaws.{clause-is, clause-within}
 use Rattle.table.proofs.parts.clause_at.Goals as goal
 

@@ -1,6 +1,5 @@
 -- The loop's invariant: of the first clauses, those that are left decide whether an equal one is there.
 -- Assumes nothing.
-use Prim.Native.Nat.{◌-◌}
 use mathlib.Core.Path.{refl, sym, ap, ◌∙◌}
 use mathlib.Core.List.{[]}
 use native.Mathlib.Omega.{arith}

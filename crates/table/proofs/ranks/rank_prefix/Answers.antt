@@ -1,6 +1,5 @@
 -- The loop's invariant: the entries so far are good, and ranked.
 -- Assumes nothing.
-use Prim.Native.Nat.{◌-◌}
 use mathlib.Core.Path.{◌∙◌}
 use native.Mathlib.Omega.{arith}
 use lib.ListN.{take}
@@ -21,7 +20,7 @@ pub returns-else-is_new : goal.returns-else-is_new
 returns-else-is_new c = ranking-fails _ _ c.loop-i.i c.loop-i.invariant.1 (omega arith) _ (c.is_new.ensures _ c.loop-i.invariant.1.table) c.if-is_new.false _
 
 pub loop-i-preserved : goal.loop-i-preserved
-loop-i-preserved c = 
+loop-i-preserved c =
     let w = c.is_new.ensures _ c.loop-i.invariant.1.table in
     (c.loop-i.invariant.0, ranking-turn _ _ c.loop-i.i c.loop-i.invariant.1 (omega arith) _ w c.if-is_new.true _ c.add_rank.auto.ranks (c.add_rank.ensures (take c.loop-i.i _) (length-take-le _ _ c.loop-i.invariant.1.within) (ranking-new _ _ c.loop-i.i c.loop-i.invariant.1 (omega arith) _ w c.if-is_new.true) c.loop-i.invariant.1.table))
 

@@ -1,6 +1,5 @@
 -- The loop's invariant: the literals so far are put.
 -- Assumes nothing.
-use Prim.Native.Nat.{◌-◌}
 use mathlib.Core.Path.{refl, ◌∙◌}
 use native.Mathlib.Omega.{arith}
 use Rattle.table.proofs.PendingLaws.{pended, put-turn, put-start, put-end, range_at}

@@ -1,6 +1,5 @@
 -- The loop's invariant: the literals that are left decide.
 -- Assumes nothing.
-use Prim.Native.Nat.{◌-◌}
 use mathlib.Core.Path.{refl, sym, ◌∙◌}
 use native.Mathlib.Omega.{arith}
 use Rattle.table.specs.Ranks.{stays_by}

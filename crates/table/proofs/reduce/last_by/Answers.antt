@@ -1,6 +1,5 @@
 -- The loop's invariant: the place so far and what is left make the whole.
 -- Assumes nothing.
-use Prim.Native.Nat.{◌-◌}
 use mathlib.Core.Path.{refl}
 use native.Mathlib.Omega.{arith}
 use Rattle.table.proofs.StayLaws.{small_at, last_turn, last_end}

@@ -1,11 +1,9 @@
 -- The loop's invariant: what stays of the literals so far stands at the front.
 -- Assumes nothing.
-use Prim.Native.Nat.{◌-◌}
 use mathlib.Core.Path.{sym, ◌∙◌}
 use native.Mathlib.Omega.{arith}
 use lib.Seq.{length-take-le}
-use Rattle.table.specs.Ranks.{stays_by, small}
-use mathlib.Core.Logic.{⊎_elim}
+use Rattle.table.specs.Ranks.{small}
 use Rattle.table.proofs.StayLaws.{small-below, reduced-end}
 use Rattle.table.proofs.CompactLaws.{compacted-start, compacted-all, compacted-keep, compacted-skip}
 use Rattle.table.proofs.reduce.reduce_in.Goals as goal
@@ -47,8 +45,8 @@ overflow_add-i c = omega (arith, c.requires.1, c.well_formed.0)
 pub loop-i-preserved : goal.loop-i-preserved
 loop-i-preserved c =
     elim c.if-stays_by.branch [
-      then-stays_by w ↦ rw (w.scratch-is, w.j-is) (compacted-keep _ _ _ c.requires.1 _ c.loop-i.i _ c.loop-i.invariant (omega arith) (sym c.stays_by.ensures ∙ w.if-stays_by.true))
-    | else-stays_by w ↦ rw (w.scratch-is, w.j-is) (compacted-skip _ _ _ c.requires.1 _ c.loop-i.i _ c.loop-i.invariant (omega arith) (sym c.stays_by.ensures ∙ w.if-stays_by.false))
+      | then-stays_by w ↦ rw (w.scratch-is, w.j-is) (compacted-keep _ _ _ c.requires.1 _ c.loop-i.i _ c.loop-i.invariant (omega arith) (sym c.stays_by.ensures ∙ w.if-stays_by.true))
+      | else-stays_by w ↦ rw (w.scratch-is, w.j-is) (compacted-skip _ _ _ c.requires.1 _ c.loop-i.i _ c.loop-i.invariant (omega arith) (sym c.stays_by.ensures ∙ w.if-stays_by.false))
     ]
 
 pub returns : goal.returns

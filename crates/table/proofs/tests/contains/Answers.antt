@@ -1,6 +1,5 @@
 -- The loop's invariant: what is left decides whether the literal is there.
 -- Assumes nothing.
-use Prim.Native.Nat.{◌-◌}
 use Rattle.table.proofs.TestLaws.{has-found, has-turn, has_end}
 use borrow.Author.Rules.{rules}
 use Rattle.table.proofs.tests.contains.Goals as goal

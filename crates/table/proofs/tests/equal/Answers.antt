@@ -1,6 +1,5 @@
 -- The loop's invariant: what is left of both decides whether they are equal.
 -- Assumes nothing.
-use Prim.Native.Nat.{◌-◌}
 use mathlib.Core.Path.{sym}
 use native.Mathlib.Omega.{arith}
 use Rattle.table.proofs.TestLaws.{same-lengths, same_differs, same_turn, same_end}

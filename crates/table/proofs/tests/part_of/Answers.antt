@@ -1,6 +1,5 @@
 -- The loop's invariant: what is left of a decides whether all of it is in b.
 -- Assumes nothing.
-use Prim.Native.Nat.{◌-◌}
 use mathlib.Core.Path.{sym, ◌∙◌}
 use native.Mathlib.Omega.{arith}
 use Rattle.table.proofs.TestLaws.{part-fails, part-turn, part_end}
