@@ -4,7 +4,6 @@ use Prim.Native.Nat.{ℕ, ◌+◌, ◌*◌, ◌/◌, ◌%◌}
 use mathlib.Core.Path.{◌≡◌, refl, sym, ap, ◌∙◌}
 use mathlib.Core.Bool.{true, false, ◌||◌, cond}
 use lib.Dec.{eqb}
-use Rattle.rules.specs.Entry as rules
 use Rattle.rules.specs.Entry.{Kind, code, uses_b, entry, KindRead, no_kind, is_kind, kind_at, bad, call, call_of, read_entry}
 use Rattle.permits.specs.Calls.{called}
 use Rattle.permits.specs.declared.Call.{Call}

@@ -1,0 +1,13 @@
+-- By the tests, one after the other.
+-- Assumes nothing.
+use Rattle.permits.proofs.ClauseLaws.{equal-order, equal-absent, equal_is}
+use Rattle.permits.proofs.equalities.equality_permitted.Goals as goal
+
+pub returns-then-b-a : goal.returns-then-b-a
+returns-then-b-a c = λ φ h. equal-order h _ _ c.if-b-a.true
+
+pub returns-then-c-b : goal.returns-then-c-b
+returns-then-c-b c = λ φ h. equal-absent h _ _ c.if-b-a.false c.if-c-b.true
+
+pub returns : goal.returns
+returns c = λ φ h. equal_is h _ _ c.if-b-a.false c.if-c-b.false _ _ (c.clause_at.ensures φ h) (c.clause_at-2.ensures φ h) _ c.opposite_pair.ensures
