@@ -1,6 +1,8 @@
 // A text, put together in a buffer. Each function gives the place after what it wrote; what has no room is left out.
 ghost use Rattle.std.specs.Prelude.{◌≤◌, length};
 
+use itoa::Buffer;
+
 // A byte.
 pub fn put(out: &mut [u8], at: usize, b: u8) -> usize
     ensures { result ≤ length out.old }
@@ -45,9 +47,8 @@ pub fn put_number(out: &mut [u8], at: usize, n: u64) -> usize
     requires { at ≤ length out.old }
     ensures { result ≤ length out.old }
 {
-    let mut digits = [0u8; 20];
-    let k = io::decimal(n, &mut digits);
-    put_text(out, at, &digits[..k])
+    let mut digits = Buffer::new();
+    put_text(out, at, digits.format(n).as_bytes())
 }
 
 // The numbers below `to` from `from` on, each between two texts.
