@@ -1,0 +1,8 @@
+-- A literal of the variable is one of the two.
+-- Assumes nothing.
+use mathlib.Core.Path.{◌∙◌}
+use Rattle.recipes.proofs.FreeLaws.{free-of}
+use Rattle.recipes.proofs.recipes.has_neither.Goals as goal
+
+pub returns : goal.returns
+returns c = c.lacks.ensures ∙ free-of _ _
