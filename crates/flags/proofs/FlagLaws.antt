@@ -1,19 +1,19 @@
 -- What a raised flag changes: itself alone.
 -- Assumes nothing.
 use Prim.Native.Nat.{ℕ, suc, ◌+◌, ◌-◌, ◌*◌, ◌/◌, ◌%◌, ◌^◌, ◌<◌, max}
-use mathlib.Core.Path.{◌≡◌, refl, sym, ap, ◌∙◌}
+use mathlib.Core.Path.{◌≡◌, sym, ap, ◌∙◌}
 use mathlib.Core.Bool.{true, false}
 use mathlib.Core.List.{List}
 use native.Mathlib.Nat.{one-mul, pow-suc, div-eq_of_lt, zero-div}
 use native.Mathlib.Omega.{arith}
-use lib.Bits.{bit_or, or_shr}
+use lib.Bits.{bit_or, or_step, or_shr}
 use lib.Dec.{eqb, ltb}
 use lib.ListN.{length, get_or, replicate, get_or-replicate}
 use lib.Pow.{pow-add, pow-lt, shl-shr}
 use lib.Seq.{get_or-set_same, get_or-set_other}
 use Rattle.meaning.proofs.Basics.{by_cases, eqb-true, eqb-false, eqb-eq}
 use borrow.Author.Tests.{ltb-true, ltb-false}
-use Rattle.stamps.proofs.BitLaws.{or-low}
+use lib.Arith.{digits_mod}
 use Rattle.flags.specs.Flags.{flag, raised}
 
 -- Bit i of a word in which only bit j is set --------------------------------------------------------------------
@@ -37,6 +37,9 @@ bit-other i j n =
     (λ h. bit_below i j (omega (arith, ltb-false i j h, n)))
 
 -- a bit more in a word
+or-low : (a b : ℕ) → bit_or a b % 2 ≡ max (a % 2) (b % 2)
+or-low a b = ap (λ (n : ℕ). n % 2) (or_step a b) ∙ digits_mod (bit_or (a / 2) (b / 2)) (omega arith)
+
 or-bit : (w b i : ℕ) → bit_or w b / 2 ^ i % 2 ≡ max (w / 2 ^ i % 2) (b / 2 ^ i % 2)
 or-bit w b i = ap (λ (n : ℕ). n % 2) (or_shr w b i) ∙ or-low (w / 2 ^ i) (b / 2 ^ i)
 
