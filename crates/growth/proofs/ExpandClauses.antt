@@ -5,7 +5,7 @@ use Prim.Native.Nat.{ℕ, ◌+◌, ◌*◌}
 use mathlib.Core.Bool.{Bool, true, false, ◌&&◌, ◌||◌, not, cond}
 use mathlib.Core.List.{List, [], ◌∷◌, ◌++◌, map}
 use lib.Dec.{eqb}
-use Rattle.meaning.specs.Lists.{any_of, keep_if, has, without, part_of}
+use Rattle.meaning.specs.Lists.{any_of, keep_if, has, part_of}
 use Rattle.meaning.specs.Formula.{var, odd, plain, is_var, mentions, drop_var, existential, universal, right_of, any_exist}
 use Rattle.meaning.specs.WellFormed.{good_prefix, reduced, tidy_clause}
 use Rattle.meaning.specs.Tidy.{stays}

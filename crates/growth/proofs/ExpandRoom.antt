@@ -8,7 +8,7 @@ use native.Mathlib.Omega.{arith}
 use lib.Dec.{leb}
 use lib.ListN.{length, take, length-append, length-map}
 use borrow.Author.Tests.{leb-true, le-leb}
-use Rattle.meaning.specs.Lists.{all_of, has, up_from}
+use Rattle.meaning.specs.Lists.{all_of, up_from}
 use Rattle.meaning.specs.Formula.{var, plain, mentions, drop_var}
 use Rattle.meaning.specs.WellFormed.{good_prefix}
 use Rattle.rules.specs.Eliminate.{fresh}
