@@ -1,6 +1,8 @@
 // A call, taken and answered.
 use crate::inputs::{Head, head_of, take_bytes, take_table};
-use shows::word_after;
+use shows::{read_full, word_after};
+use std::io;
+use std::io::Read;
 
 // The result, put together; 0 for an operation that is not there.
 fn answer(
@@ -26,15 +28,17 @@ fn answer(
     }
 }
 
-fn say(out: &[u8], n: usize) -> bool {
+fn say(rt: &impl Print, out: &[u8], n: usize) -> io::Result<bool> {
     if out.len() < n {
-        return false;
+        return Ok(false);
     }
-    io::write_all(1, &out[..n])
+    shows::say(rt, &out[..n])?;
+    Ok(true)
 }
 
 // The call on the parts of these lengths.
 fn answer_on(
+    rt: &impl Print,
     h: Head,
     first: &mut [u16],
     m: usize,
@@ -43,15 +47,15 @@ fn answer_on(
     bytes: &mut [u8],
     size: usize,
     out: &mut [u8],
-) -> bool {
+) -> io::Result<bool> {
     if first.len() < m {
-        return false;
+        return Ok(false);
     }
     if second.len() < n {
-        return false;
+        return Ok(false);
     }
     if bytes.len() < size {
-        return false;
+        return Ok(false);
     }
     let e = answer(
         h,
@@ -61,52 +65,56 @@ fn answer_on(
         out,
     );
     if e == 0 {
-        return false;
+        return Ok(false);
     }
-    say(out, e)
+    say(rt, out, e)
 }
 
 // The second table, the bytes, and the answer.
 fn serve_rest(
+    rt: &impl Print,
+    input: &mut impl Read,
     h: Head,
     first: &mut [u16],
     second: &mut [u16],
     bytes: &mut [u8],
     raw: &mut [u8],
     out: &mut [u8],
-) -> bool {
+) -> io::Result<bool> {
     let m = h.size;
     let used = h.used;
     let n = word_after(raw, used, 0);
     let filled = word_after(raw, used, 4);
-    if !take_table(second, raw, n, filled, 4) {
-        return false;
+    if !take_table(input, second, raw, n, filled, 4)? {
+        return Ok(false);
     }
     let size = word_after(raw, filled, 0);
-    if !take_bytes(bytes, size) {
-        return false;
+    if !take_bytes(input, bytes, size)? {
+        return Ok(false);
     }
-    answer_on(h, first, m, second, n, bytes, size, out)
+    answer_on(rt, h, first, m, second, n, bytes, size, out)
 }
 
 // One call. False where the input ends, and where it holds no call.
 pub fn serve_call(
+    rt: &impl Print,
+    input: &mut impl Read,
     first: &mut [u16; 12000],
     second: &mut [u16; 12000],
     bytes: &mut [u8; 70000],
     raw: &mut [u8; 24008],
     out: &mut [u8; 160000],
-) -> bool {
+) -> io::Result<bool> {
     let mut head = [0u8; 50];
-    if io::read_full(0, &mut head) != 50 {
-        return false;
+    if read_full(input, &mut head)? != 50 {
+        return Ok(false);
     }
     let h = head_of(&head);
     if 1 < h.side {
-        return false;
+        return Ok(false);
     }
-    if !take_table(first, raw, h.size, h.used, 8) {
-        return false;
+    if !take_table(input, first, raw, h.size, h.used, 8)? {
+        return Ok(false);
     }
-    serve_rest(h, first, second, bytes, raw, out)
+    serve_rest(rt, input, h, first, second, bytes, raw, out)
 }

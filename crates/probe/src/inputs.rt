@@ -1,10 +1,12 @@
 // What a call brings: its numbers, and the two tables and the bytes that it lends.
-ghost use Rattle.std.specs.Prelude.{◌≤◌, ◌≡◌, true, eqb, length, get_or, drop};
+ghost use Rattle.std.specs.Prelude.{◌≤◌, ◌≡◌, true, eqb, length, get_or, drop, IfOk};
 ghost use Rattle.shows.specs.Numbers.{number_at};
 ghost use Rattle.probe.specs.Taken.{Taken};
 
 use rimhlada::Counts;
-use shows::{fill, take_long, take_word};
+use shows::{fill, read_full, take_long, take_word};
+use std::io;
+use std::io::Read;
 
 // The first fifty bytes: the operation, the record, the two numbers; then the first table's length, and how many numbers follow.
 #[derive(Clone, Copy)]
@@ -45,34 +47,43 @@ pub fn head_of(h: &[u8; 50]) -> Head
 }
 
 // Reads so many bytes; those behind them stay. False where there is no room for them or the input ends.
-pub fn take_bytes(bytes: &mut [u8], n: usize) -> bool
-    ensures { (result ≡ true → n ≤ length bytes.old) × (drop n bytes.new ≡ drop n bytes.old) }
+pub fn take_bytes(input: &mut impl Read, bytes: &mut [u8], n: usize) -> io::Result<bool>
+    ensures room { IfOk result (λ taken. taken ≡ true → n ≤ length bytes.old) }
+    ensures rest { drop n bytes.new ≡ drop n bytes.old }
 {
     if bytes.len() < n {
-        return false;
+        return Ok(false);
     }
-    io::read_full(0, &mut bytes[..n]) == n
+    let filled = read_full(input, &mut bytes[..n])?;
+    Ok(filled == n)
 }
 
 // Reads a table's numbers, and so many bytes after them. False where the lengths are too large or the input ends.
-pub fn take_table(t: &mut [u16], raw: &mut [u8], size: usize, used: usize, more: usize) -> bool
-    ensures { result ≡ true → Taken t.new raw.new size used more }
+pub fn take_table(
+    input: &mut impl Read,
+    t: &mut [u16],
+    raw: &mut [u8],
+    size: usize,
+    used: usize,
+    more: usize,
+) -> io::Result<bool>
+    ensures { IfOk result (λ taken. taken ≡ true → Taken t.new raw.new size used more) }
 {
     if t.len() < size {
-        return false;
+        return Ok(false);
     }
     if size < used {
-        return false;
+        return Ok(false);
     }
     if raw.len() < more {
-        return false;
+        return Ok(false);
     }
     if (raw.len() - more) / 2 < used {
-        return false;
+        return Ok(false);
     }
-    if !take_bytes(raw, 2 * used + more) {
-        return false;
+    if !take_bytes(input, raw, 2 * used + more)? {
+        return Ok(false);
     }
     fill(t, size, raw, used);
-    true
+    Ok(true)
 }

@@ -8,9 +8,12 @@ mod numbers;
 mod operations;
 mod results;
 
+use std::io;
+
 // A proved loop has to end, and nothing says that the input does. So the loop counts its turns down, from a number that no run
 // uses up.
-fn main() {
+fn main(rt: HostRuntime) -> io::Result<()> {
+    let mut input = rt.reader();
     let mut first = [0u16; 12000];
     let mut second = [0u16; 12000];
     let mut bytes = [0u8; 70000];
@@ -18,10 +21,19 @@ fn main() {
     let mut out = [0u8; 160000];
     let mut turns = u64::MAX;
     while turns > 0 {
-        if calls::serve_call(&mut first, &mut second, &mut bytes, &mut raw, &mut out) {
+        if calls::serve_call(
+            &rt,
+            &mut input,
+            &mut first,
+            &mut second,
+            &mut bytes,
+            &mut raw,
+            &mut out,
+        )? {
             turns -= 1;
         } else {
-            return;
+            return Ok(());
         }
     }
+    Ok(())
 }

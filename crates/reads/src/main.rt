@@ -3,57 +3,64 @@
 #![tactic(auto)]
 
 use rimhlada::Reading;
-use shows::{used, word};
+use shows::{say, used, word};
+use std::io;
 
 mod cases;
 mod texts;
 
-fn small(n: u16) {
-    word(n as u64);
+fn small(rt: &impl Print, n: u16) -> io::Result<()> {
+    word(rt, n as u64)
 }
 
-fn show_reading(r: Reading) {
+fn show_reading(rt: &impl Print, r: Reading) -> io::Result<()> {
     let a = r.answer;
     let c = r.counts;
-    word(a.number() as u64);
-    word(r.offset as u64);
-    io::write_all(1, b"| ");
-    word(c.variables as u64);
-    word(c.clauses as u64);
-    word(c.literals as u64);
+    word(rt, a.number() as u64)?;
+    word(rt, r.offset as u64)?;
+    say(rt, b"| ")?;
+    word(rt, c.variables as u64)?;
+    word(rt, c.clauses as u64)?;
+    word(rt, c.literals as u64)?;
     if c.second {
-        io::write_all(1, b"second ");
+        say(rt, b"second ")?;
     }
+    Ok(())
 }
 
 // One text.
-pub fn show(text: &[u8], first: &mut [u16; 11261], second: &mut [u16; 11261]) {
+pub fn show(
+    rt: &impl Print,
+    text: &[u8],
+    first: &mut [u16; 11261],
+    second: &mut [u16; 11261],
+) -> io::Result<()> {
     first[11260] = 1;
     second[0] = 1;
     let r = rimhlada::read(text, first, second);
-    show_reading(r);
-    io::write_all(1, b"| ");
-    small(first[0]);
-    small(first[1]);
-    small(first[1023]);
-    small(first[1024]);
-    small(first[3070]);
-    small(first[3071]);
-    small(first[3072]);
-    io::write_all(1, b"| ");
-    word(used(first) as u64);
-    word(used(second) as u64);
-    io::write_all(1, b"\n");
+    show_reading(rt, r)?;
+    say(rt, b"| ")?;
+    small(rt, first[0])?;
+    small(rt, first[1])?;
+    small(rt, first[1023])?;
+    small(rt, first[1024])?;
+    small(rt, first[3070])?;
+    small(rt, first[3071])?;
+    small(rt, first[3072])?;
+    say(rt, b"| ")?;
+    word(rt, used(first) as u64)?;
+    word(rt, used(second) as u64)?;
+    say(rt, b"\n")
 }
 
-fn main() {
+fn main(rt: HostRuntime) -> io::Result<()> {
     let mut first = [0u16; 11261];
     let mut second = [0u16; 11261];
-    cases::headers(&mut first, &mut second);
-    cases::lines(&mut first, &mut second);
-    cases::clauses(&mut first, &mut second);
-    cases::layouts(&mut first, &mut second);
-    cases::limits(&mut first, &mut second);
-    texts::built(&mut first, &mut second);
-    cases::lengths(&mut first, &mut second);
+    cases::headers(&rt, &mut first, &mut second)?;
+    cases::lines(&rt, &mut first, &mut second)?;
+    cases::clauses(&rt, &mut first, &mut second)?;
+    cases::layouts(&rt, &mut first, &mut second)?;
+    cases::limits(&rt, &mut first, &mut second)?;
+    texts::built(&rt, &mut first, &mut second)?;
+    cases::lengths(&rt, &mut first, &mut second)
 }

@@ -2,7 +2,8 @@
 ghost use Rattle.std.specs.Prelude.{◌≤◌, length};
 
 use crate::show;
-use shows::{put, put_text, put_times};
+use shows::{put, put_text, put_times, say};
+use std::io;
 
 // Writes a minus, or nothing.
 fn put_sign(out: &mut [u8], at: usize, minus: bool) -> usize
@@ -66,17 +67,19 @@ fn thrice(out: &mut [u8], front: &[u8], middle: &[u8], n: usize, back: &[u8]) ->
 }
 
 fn show_many(
+    rt: &impl Print,
     out: &mut [u8],
     header: &[u8],
     rest: &[u8],
     first: &mut [u16; 11261],
     second: &mut [u16; 11261],
-) {
+) -> io::Result<()> {
     let n = many(out, header, rest);
-    show(&out[..n], first, second);
+    show(rt, &out[..n], first, second)
 }
 
 fn show_thrice(
+    rt: &impl Print,
     out: &mut [u8],
     front: &[u8],
     middle: &[u8],
@@ -84,26 +87,46 @@ fn show_thrice(
     back: &[u8],
     first: &mut [u16; 11261],
     second: &mut [u16; 11261],
-) {
+) -> io::Result<()> {
     let e = thrice(out, front, middle, n, back);
-    show(&out[..e], first, second);
+    show(rt, &out[..e], first, second)
 }
 
 // Many literals, clauses, repeats, comments, digits; a text of 65,536 bytes and one of 65,537.
-pub fn built(first: &mut [u16; 11261], second: &mut [u16; 11261]) {
-    io::write_all(1, b"built\n");
+pub fn built(
+    rt: &impl Print,
+    first: &mut [u16; 11261],
+    second: &mut [u16; 11261],
+) -> io::Result<()> {
+    say(rt, b"built\n")?;
     let mut buffer = [0u8; 65537];
-    show_many(&mut buffer, b"p cnf 99 92 e ", b"10 0", first, second);
-    show_many(&mut buffer, b"p cnf 99 93 e ", b"10 0 11 0", first, second);
+    show_many(rt, &mut buffer, b"p cnf 99 92 e ", b"10 0", first, second)?;
     show_many(
+        rt,
+        &mut buffer,
+        b"p cnf 99 93 e ",
+        b"10 0 11 0",
+        first,
+        second,
+    )?;
+    show_many(
+        rt,
         &mut buffer,
         b"p cnf 99 93 e ",
         b"10 0 -99 10 -99 -98 0 x",
         first,
         second,
-    );
-    show_many(&mut buffer, b"p cnf 99 93 e ", b"10 0 10 0", first, second);
+    )?;
+    show_many(
+        rt,
+        &mut buffer,
+        b"p cnf 99 93 e ",
+        b"10 0 10 0",
+        first,
+        second,
+    )?;
     show_thrice(
+        rt,
         &mut buffer,
         b"p cnf 3 1 e 1 2 3 0 ",
         b"3 1 ",
@@ -111,8 +134,9 @@ pub fn built(first: &mut [u16; 11261], second: &mut [u16; 11261]) {
         b"-2 0",
         first,
         second,
-    );
+    )?;
     show_thrice(
+        rt,
         &mut buffer,
         b"p cnf 3 1 e 1 2 3 0 ",
         b"3 1 ",
@@ -120,8 +144,9 @@ pub fn built(first: &mut [u16; 11261], second: &mut [u16; 11261]) {
         b"-1 0",
         first,
         second,
-    );
+    )?;
     show_thrice(
+        rt,
         &mut buffer,
         b"p cnf 1 2047 a 1 0 ",
         b"0 ",
@@ -129,8 +154,9 @@ pub fn built(first: &mut [u16; 11261], second: &mut [u16; 11261]) {
         b"",
         first,
         second,
-    );
+    )?;
     show_thrice(
+        rt,
         &mut buffer,
         b"p cnf 1 2047 a 1 0 ",
         b"0 ",
@@ -138,8 +164,9 @@ pub fn built(first: &mut [u16; 11261], second: &mut [u16; 11261]) {
         b"0",
         first,
         second,
-    );
+    )?;
     show_thrice(
+        rt,
         &mut buffer,
         b"p cnf 1 2047 a 1 0 ",
         b"0 ",
@@ -147,8 +174,9 @@ pub fn built(first: &mut [u16; 11261], second: &mut [u16; 11261]) {
         b"",
         first,
         second,
-    );
+    )?;
     show_thrice(
+        rt,
         &mut buffer,
         b"c",
         b" comment",
@@ -156,8 +184,9 @@ pub fn built(first: &mut [u16; 11261], second: &mut [u16; 11261]) {
         b"\np cnf 1 1 e 1 0 -1 0",
         first,
         second,
-    );
+    )?;
     show_thrice(
+        rt,
         &mut buffer,
         b"p cnf 1 1 e 1 0 ",
         b"1",
@@ -165,8 +194,9 @@ pub fn built(first: &mut [u16; 11261], second: &mut [u16; 11261]) {
         b" 0",
         first,
         second,
-    );
+    )?;
     show_thrice(
+        rt,
         &mut buffer,
         b"p cnf 1 1 e 1 0 -1 0",
         b" ",
@@ -174,8 +204,9 @@ pub fn built(first: &mut [u16; 11261], second: &mut [u16; 11261]) {
         b"",
         first,
         second,
-    );
+    )?;
     show_thrice(
+        rt,
         &mut buffer,
         b"p cnf 1 1 e 1 0 -1 0",
         b" ",
@@ -183,5 +214,5 @@ pub fn built(first: &mut [u16; 11261], second: &mut [u16; 11261]) {
         b"",
         first,
         second,
-    );
+    )
 }

@@ -8,6 +8,6 @@ mod tables;
 mod texts;
 
 pub use numbers::{high, low, pair, take_long, take_word};
-pub use prints::{hex, number, read_full, say, word};
+pub use prints::{decimal, hex, read_full, say, word};
 pub use tables::{fill, reach, used, word_after};
 pub use texts::{put, put_number, put_range, put_text, put_times};

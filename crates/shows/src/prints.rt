@@ -9,13 +9,13 @@ pub fn say(rt: &impl Print, text: &[u8]) -> io::Result<()> {
 }
 
 // A number in decimal.
-pub fn number(rt: &impl Print, n: u64) -> io::Result<()> {
+pub fn decimal(rt: &impl Print, n: u64) -> io::Result<()> {
     rt.print(n)
 }
 
 // A number and a space.
 pub fn word(rt: &impl Print, n: u64) -> io::Result<()> {
-    number(rt, n)?;
+    decimal(rt, n)?;
     say(rt, b" ")
 }
 

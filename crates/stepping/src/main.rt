@@ -8,25 +8,27 @@ mod faults;
 mod rooms;
 mod showing;
 
-fn main() {
-    cases::edges();
-    cases::units();
-    cases::pures();
-    cases::subsumptions();
-    cases::strengthenings();
-    cases::equalities();
-    cases::resolutions();
-    cases::expansions();
-    faults::bad_entries();
-    faults::good_entries();
-    faults::low_bits();
-    faults::lengths();
-    faults::records();
-    faults::wild_records();
-    faults::prefixes();
-    faults::ends();
-    faults::literals();
-    rooms::variables();
-    rooms::clauses();
-    rooms::literals();
+use std::io;
+
+fn main(rt: HostRuntime) -> io::Result<()> {
+    cases::edges(&rt)?;
+    cases::units(&rt)?;
+    cases::pures(&rt)?;
+    cases::subsumptions(&rt)?;
+    cases::strengthenings(&rt)?;
+    cases::equalities(&rt)?;
+    cases::resolutions(&rt)?;
+    cases::expansions(&rt)?;
+    faults::bad_entries(&rt)?;
+    faults::good_entries(&rt)?;
+    faults::low_bits(&rt)?;
+    faults::lengths(&rt)?;
+    faults::records(&rt)?;
+    faults::wild_records(&rt)?;
+    faults::prefixes(&rt)?;
+    faults::ends(&rt)?;
+    faults::literals(&rt)?;
+    rooms::variables(&rt)?;
+    rooms::clauses(&rt)?;
+    rooms::literals(&rt)
 }

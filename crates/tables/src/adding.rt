@@ -1,5 +1,5 @@
 // Building tables: variables, raw clauses number by number, and one clause many times.
-ghost use Rattle.std.specs.Prelude.{◌≡◌, length};
+ghost use Rattle.std.specs.Prelude.{◌≡◌, length, IfOk};
 ghost use Rattle.table.specs.Ready.{Ready};
 ghost use Rattle.table.specs.Table.{Held};
 ghost use Rattle.table.specs.Pending.{Pended};
@@ -7,6 +7,7 @@ ghost use Rattle.tables.specs.Going.{Going};
 
 use crate::State;
 use crate::showing::{say, say_counts};
+use std::io;
 use table::{Counts, Pending, Pushed};
 
 // An empty table and its ranks, whatever they held.
@@ -53,57 +54,72 @@ pub fn quantify_all(t: &mut [u16], c: Counts, ranks: &mut [u16], prefix: &[u16])
 }
 
 // The raw clause is complete.
-fn close(t: &mut [u16], c: Counts, scratch: &mut [u16], p: Pending, ranks: &[u16]) -> Counts
+fn close(
+    rt: &impl Print,
+    t: &mut [u16],
+    c: Counts,
+    scratch: &mut [u16],
+    p: Pending,
+    ranks: &[u16],
+) -> io::Result<Counts>
     requires ready { Ready t.old ranks.now c }
     requires pended { Pended scratch.old p }
-    ensures { Ready t.new ranks.now result }
+    ensures { IfOk result (λ d. Ready t.new ranks.now d) }
 {
     match table::close_clause(t, c, scratch, p, ranks) {
         Pushed::Done(d) => {
-            say_counts(d);
-            return d;
+            say_counts(rt, d)?;
+            Ok(d)
         }
         Pushed::Full => {
-            say(b"full\n");
-            return c;
+            say(rt, b"full\n")?;
+            Ok(c)
         }
     }
 }
 
 // One number of a list of raw clauses: a literal, or 0 at the end of each.
-fn take_number(t: &mut [u16], s: State, scratch: &mut [u16], ranks: &[u16], x: u16) -> State
+fn take_number(
+    rt: &impl Print,
+    t: &mut [u16],
+    s: State,
+    scratch: &mut [u16],
+    ranks: &[u16],
+    x: u16,
+) -> io::Result<State>
     requires { Going t.old ranks.now scratch.old s }
-    ensures { Going t.new ranks.now scratch.new result }
+    ensures { IfOk result (λ r. Going t.new ranks.now scratch.new r) }
 {
     let c = s.counts;
     let p = s.pending;
     if x < 2 {
-        let d = close(t, c, scratch, p, ranks);
-        return State {
+        let d = close(rt, t, c, scratch, p, ranks)?;
+        return Ok(State {
             counts: d,
             pending: Pending::empty(),
-        };
+        });
     }
     if 2047 < x {
-        return s;
+        return Ok(s);
     }
     let q = table::put_literal(scratch, p, x);
-    State {
+    Ok(State {
         counts: c,
         pending: q,
-    }
+    })
 }
 
 pub fn add_all(
+    rt: &impl Print,
     t: &mut [u16],
     c: Counts,
     scratch: &mut [u16],
     ranks: &[u16],
     numbers: &[u16],
-) -> Counts
+) -> io::Result<Counts>
     requires ready { Ready t.old ranks.now c }
     requires scratch_len { length scratch.old ≡ 1023 }
-    ensures { Ready t.new ranks.now result }
+    ensures { IfOk result (λ d. Ready t.new ranks.now d) }
 {
     let mut s = State {
         counts: c,
@@ -111,16 +127,22 @@ pub fn add_all(
     };
     let mut i = 0;
     while i < numbers.len() {
-        s = take_number(t, s, scratch, ranks, numbers[i]);
+        s = take_number(rt, t, s, scratch, ranks, numbers[i])?;
         i += 1;
     }
-    s.counts
+    Ok(s.counts)
 }
 
 // The clause so many times, with no look for equal ones.
-pub fn push_times(t: &mut [u16], c: Counts, clause: &[u16], times: usize) -> Counts
+pub fn push_times(
+    rt: &impl Print,
+    t: &mut [u16],
+    c: Counts,
+    clause: &[u16],
+    times: usize,
+) -> io::Result<Counts>
     requires { Held t.old c }
-    ensures { Held t.new result }
+    ensures { IfOk result (λ d. Held t.new d) }
 {
     let mut counts = c;
     let mut i = 0;
@@ -130,11 +152,11 @@ pub fn push_times(t: &mut [u16], c: Counts, clause: &[u16], times: usize) -> Cou
                 counts = d;
             }
             Pushed::Full => {
-                say(b"full\n");
-                return counts;
+                say(rt, b"full\n")?;
+                return Ok(counts);
             }
         }
         i += 1;
     }
-    counts
+    Ok(counts)
 }

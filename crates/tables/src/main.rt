@@ -1,12 +1,13 @@
 // Runs the functions on work tables and prints what comes of each.
 #![tactic(auto)]
 
-ghost use Rattle.std.specs.Prelude.{◌≡◌, length};
+ghost use Rattle.std.specs.Prelude.{◌≡◌, length, IfOk};
 ghost use Rattle.table.specs.Ready.{Ready};
 ghost use Rattle.table.specs.Table.{Held};
 
 use adding::{add_all, begin, push_times, quantify_all};
 use showing::{say, say_counts, say_good, say_literals};
+use std::io;
 use table::{Counts, Pending};
 
 mod adding;
@@ -20,9 +21,9 @@ pub struct State {
 }
 
 // Adds clauses to a formula `e 1 a 2 e 3 a 4`.
-fn build(t: &mut [u16], ranks: &mut [u16]) -> Counts
+fn build(rt: &impl Print, t: &mut [u16], ranks: &mut [u16]) -> io::Result<Counts>
     requires { (length t.old ≡ 11261) × (length ranks.old ≡ 1024) }
-    ensures { Ready t.new ranks.new result }
+    ensures { IfOk result (λ c. Ready t.new ranks.new c) }
 {
     let mut scratch = [0u16; 1023];
     let prefix = [2u16, 5, 6, 9];
@@ -30,17 +31,19 @@ fn build(t: &mut [u16], ranks: &mut [u16]) -> Counts
     let numbers = [6u16, 3, 0, 3, 6, 3, 0, 2, 3, 0, 2, 9, 0, 5, 6, 0, 5, 0];
     let c = begin(t, ranks);
     let d = quantify_all(t, c, ranks, &prefix);
-    add_all(t, d, &mut scratch, ranks, &numbers)
+    add_all(rt, t, d, &mut scratch, ranks, &numbers)
 }
 
 // What is said of the table with another number at one place. It is put back.
-fn damaged(t: &mut [u16], c: Counts, at: usize, number: u16) {
+fn damaged(rt: &impl Print, t: &mut [u16], c: Counts, at: usize, number: u16) -> io::Result<()> {
     if at < t.len() {
         let old = t[at];
         t[at] = number;
-        say_good(t, c);
+        let said = say_good(rt, t, c);
         t[at] = old;
+        return said;
     }
+    Ok(())
 }
 
 // The same record, for the second table, and with a literal more.
@@ -66,54 +69,74 @@ fn one_literal_more(c: Counts) -> Counts {
 }
 
 // A table damaged: an end, the order of a clause, a literal's number, a universal at the right end.
-fn damage_clauses(t: &mut [u16], c: Counts) {
-    damaged(t, c, 1023, 1);
-    damaged(t, c, 3070, 7);
-    damaged(t, c, 3071, 60000);
-    damaged(t, c, 3072, 9);
+fn damage_clauses(rt: &impl Print, t: &mut [u16], c: Counts) -> io::Result<()> {
+    damaged(rt, t, c, 1023, 1)?;
+    damaged(rt, t, c, 3070, 7)?;
+    damaged(rt, t, c, 3071, 60000)?;
+    damaged(rt, t, c, 3072, 9)
 }
 
 // And a clause twice, an unused place, a variable twice in the prefix.
-fn damage_more(t: &mut [u16], c: Counts) {
-    damaged(t, c, 3073, 3);
-    damaged(t, c, 11260, 1);
-    damaged(t, c, 1, 3);
+fn damage_more(rt: &impl Print, t: &mut [u16], c: Counts) -> io::Result<()> {
+    damaged(rt, t, c, 3073, 3)?;
+    damaged(rt, t, c, 11260, 1)?;
+    damaged(rt, t, c, 1, 3)
 }
 
 // The literals from either table, and the two refusals.
-fn literals_of<'a>(first: &'a [u16], second: &'a [u16], c: Counts) {
-    say_literals(first, second, c);
-    say_literals(first, second, in_second(c));
-    say_literals(second, first, in_second(c));
+fn literals_of<'a>(
+    rt: &impl Print,
+    first: &'a [u16],
+    second: &'a [u16],
+    c: Counts,
+) -> io::Result<()> {
+    say_literals(rt, first, second, c)?;
+    say_literals(rt, first, second, in_second(c))?;
+    say_literals(rt, second, first, in_second(c))?;
     if 7 <= second.len() {
-        say_literals(first, &second[..7], c);
+        say_literals(rt, first, &second[..7], c)?;
     }
+    Ok(())
 }
 
 // The clause so many times, and then the last one.
-fn fill(t: &mut [u16], clause: &[u16], times: usize, last: &[u16]) -> Counts
+fn fill(
+    rt: &impl Print,
+    t: &mut [u16],
+    clause: &[u16],
+    times: usize,
+    last: &[u16],
+) -> io::Result<Counts>
     requires { length t.old ≡ 11261 }
-    ensures { Held t.new result }
+    ensures { IfOk result (λ c. Held t.new c) }
 {
     let mut ranks = [0u16; 1024];
     let a = begin(t, &mut ranks);
-    let b = push_times(t, a, clause, times);
-    push_times(t, b, last, 1)
+    let b = push_times(rt, t, a, clause, times)?;
+    push_times(rt, t, b, last, 1)
 }
 
 // Tables that get full, by clauses and by literals. What is refused changes nothing.
-fn fill_up(first: &mut [u16], second: &mut [u16], clause: &[u16], times: usize, last: &[u16])
+fn fill_up(
+    rt: &impl Print,
+    first: &mut [u16],
+    second: &mut [u16],
+    clause: &[u16],
+    times: usize,
+    last: &[u16],
+) -> io::Result<()>
     requires { (length first.old ≡ 11261) × (length second.old ≡ 11261) }
 {
-    say_counts(fill(first, clause, times, last));
-    let c = fill(second, clause, times, last);
-    say_counts(push_times(second, c, last, 1));
+    say_counts(rt, fill(rt, first, clause, times, last)?)?;
+    let c = fill(rt, second, clause, times, last)?;
+    say_counts(rt, push_times(rt, second, c, last, 1)?)?;
     if table::equal(first, second) {
-        say(b"unchanged\n");
+        say(rt, b"unchanged\n")?;
     }
+    Ok(())
 }
 
-fn main() {
+fn main(rt: HostRuntime) -> io::Result<()> {
     let mut first = [0u16; 11261];
     let mut second = [0u16; 11261];
     let mut ranks = [0u16; 1024];
@@ -121,12 +144,12 @@ fn main() {
     let seven = [2u16; 7];
     let one = [2u16; 1];
     let other = [4u16; 1];
-    let c = build(&mut first, &mut ranks);
-    say_good(&first, c);
-    damage_clauses(&mut first, c);
-    damage_more(&mut first, c);
-    say_good(&first, one_literal_more(c));
-    literals_of(&first, &second, c);
-    fill_up(&mut first, &mut second, &one, 2046, &other);
-    fill_up(&mut first, &mut second, &wide, 8, &seven);
+    let c = build(&rt, &mut first, &mut ranks)?;
+    say_good(&rt, &first, c)?;
+    damage_clauses(&rt, &mut first, c)?;
+    damage_more(&rt, &mut first, c)?;
+    say_good(&rt, &first, one_literal_more(c))?;
+    literals_of(&rt, &first, &second, c)?;
+    fill_up(&rt, &mut first, &mut second, &one, 2046, &other)?;
+    fill_up(&rt, &mut first, &mut second, &wide, 8, &seven)
 }

@@ -1,65 +1,63 @@
 // What is printed.
 use judging::Asked;
-use libc::STDOUT_FILENO;
+use std::io;
 use table::Counts;
 
-pub fn say(text: &[u8]) {
-    io::write_all(STDOUT_FILENO, text);
+pub fn say(rt: &impl Print, text: &[u8]) -> io::Result<()> {
+    rt.write_all(text)
 }
 
-fn say_number(n: usize) {
-    io::print_decimal(STDOUT_FILENO, n as u64);
+fn say_number(rt: &impl Print, n: usize) -> io::Result<()> {
+    rt.print(n)
 }
 
 // The counts, on a line of their own.
-pub fn say_counts(c: Counts) {
-    say_number(c.variables);
-    say(b" variables, ");
-    say_number(c.clauses);
-    say(b" clauses, ");
-    say_number(c.literals);
-    say(b" literals\n");
+pub fn say_counts(rt: &impl Print, c: Counts) -> io::Result<()> {
+    say_number(rt, c.variables)?;
+    say(rt, b" variables, ")?;
+    say_number(rt, c.clauses)?;
+    say(rt, b" clauses, ")?;
+    say_number(rt, c.literals)?;
+    say(rt, b" literals\n")
 }
 
 // Whether the table is good for the counts.
-pub fn say_good(t: &[u16], c: Counts) {
+pub fn say_good(rt: &impl Print, t: &[u16], c: Counts) -> io::Result<()> {
     if judging::well_formed(t, c) {
-        say(b"well formed\n");
-        return;
+        return say(rt, b"well formed\n");
     }
-    say(b"malformed\n");
+    say(rt, b"malformed\n")
 }
 
 fn wide(x: u16) -> usize {
     x as usize
 }
 
-fn say_numbers(s: &[u16]) {
+fn say_numbers(rt: &impl Print, s: &[u16]) -> io::Result<()> {
     let mut i = 0;
     while i < s.len() {
-        say(b" ");
-        say_number(wide(s[i]));
+        say(rt, b" ")?;
+        say_number(rt, wide(s[i]))?;
         i += 1;
     }
-    say(b"\n");
+    say(rt, b"\n")
 }
 
-fn say_answer(a: Asked) {
+fn say_answer(rt: &impl Print, a: Asked) -> io::Result<()> {
     match a {
-        Asked::Given => {
-            say(b"given:");
-        }
-        Asked::WrongLength => {
-            say(b"wrong length:");
-        }
-        Asked::Malformed => {
-            say(b"malformed:");
-        }
+        Asked::Given => say(rt, b"given:"),
+        Asked::WrongLength => say(rt, b"wrong length:"),
+        Asked::Malformed => say(rt, b"malformed:"),
     }
 }
 
 // What is said of a call for the literals, and what it gives.
-pub fn say_literals<'a>(first: &'a [u16], second: &'a [u16], c: Counts) {
-    say_answer(judging::literals_answer(first, second, c));
-    say_numbers(judging::literals_part(first, second, c));
+pub fn say_literals<'a>(
+    rt: &impl Print,
+    first: &'a [u16],
+    second: &'a [u16],
+    c: Counts,
+) -> io::Result<()> {
+    say_answer(rt, judging::literals_answer(first, second, c))?;
+    say_numbers(rt, judging::literals_part(first, second, c))
 }

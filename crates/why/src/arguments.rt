@@ -2,6 +2,8 @@
 ghost use Rattle.std.specs.Prelude.{◌≤◌, ◌<◌, ◌≡◌, length, take};
 ghost use Rattle.why.specs.Arguments.{bad, number_in, with_digit};
 
+use std::env::{Env, FillError};
+
 // What is no number of at most four digits.
 pub const BAD: u64 = 10000;
 
@@ -40,17 +42,20 @@ fn number_in(four: &[u8; 4], n: usize) -> u64
     with_digit(c, four[3])
 }
 
+// Is there an argument i?
+pub fn is_given(rt: &impl Env, i: usize) -> bool {
+    let mut first = [0u8; 1];
+    !matches!(rt.arg(i, &mut first), Err(FillError::NotPresent))
+}
+
 // Argument i as a number; 0 where it is missing, BAD where it is none. An argument of more than four bytes leaves no length.
-pub fn number_at(i: usize) -> u64
+pub fn number_at(rt: &impl Env, i: usize) -> u64
     ensures { result ≤ bad }
 {
-    if os::arg_count() <= i {
-        return 0;
-    }
     let mut four = [0u8; 4];
-    let n = os::arg(i, &mut four);
-    if n == 0 {
-        return BAD;
+    match rt.arg(i, &mut four) {
+        Err(FillError::NotPresent) => 0,
+        Err(FillError::TooLong) | Ok(0) => BAD,
+        Ok(n) => number_in(&four, n),
     }
-    number_in(&four, n)
 }

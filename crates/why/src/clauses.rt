@@ -3,34 +3,37 @@ ghost use Rattle.std.specs.Prelude.{◌≡◌};
 ghost use Rattle.why.specs.Places.{start_in};
 
 use rimhlada::Counts;
-use shows::say;
+use shows::{decimal, say};
+use std::io;
 
-fn show_literal(l: u16) {
+fn show_literal(rt: &impl Print, l: u16) -> io::Result<()> {
     if l % 2 == 1 {
-        say(b"-");
+        say(rt, b"-")?;
     }
-    io::print_decimal(1, (l / 2) as u64);
+    decimal(rt, (l / 2) as u64)
 }
 
 // The literal at place i, if that is from start on and before end; after a space, if it is not the first.
-fn show_within(l: u16, i: usize, start: usize, end: usize) {
+fn show_within(rt: &impl Print, l: u16, i: usize, start: usize, end: usize) -> io::Result<()> {
     if start <= i {
         if i < end {
             if start < i {
-                say(b" ");
+                say(rt, b" ")?;
             }
-            show_literal(l);
+            show_literal(rt, l)?;
         }
     }
+    Ok(())
 }
 
 // The literals from one place to another.
-fn show_between(literals: &[u16], start: usize, end: usize) {
+fn show_between(rt: &impl Print, literals: &[u16], start: usize, end: usize) -> io::Result<()> {
     let mut i = 0;
     while i < literals.len() {
-        show_within(literals[i], i, start, end);
+        show_within(rt, literals[i], i, start, end)?;
         i += 1;
     }
+    Ok(())
 }
 
 // A number of a table, as a place.
@@ -55,14 +58,19 @@ fn start_of(t: &[u16; 11261], i: usize) -> usize
 }
 
 // Clause i of the formula in the table that the record names.
-pub fn show_clause<'a>(first: &'a [u16; 11261], second: &'a [u16; 11261], c: Counts, i: usize) {
+pub fn show_clause<'a>(
+    rt: &impl Print,
+    first: &'a [u16; 11261],
+    second: &'a [u16; 11261],
+    c: Counts,
+    i: usize,
+) -> io::Result<()> {
     if 2046 < i {
-        return;
+        return Ok(());
     }
     let literals = rimhlada::literals(first, second, c);
     if c.second {
-        show_between(literals, start_of(second, i), start_of(second, i + 1));
-        return;
+        return show_between(rt, literals, start_of(second, i), start_of(second, i + 1));
     }
-    show_between(literals, start_of(first, i), start_of(first, i + 1));
+    show_between(rt, literals, start_of(first, i), start_of(first, i + 1))
 }

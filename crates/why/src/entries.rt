@@ -1,70 +1,66 @@
 // The step that a log entry calls, in words.
-use shows::say;
+use shows::{decimal, hex, say};
+use std::io;
 
-fn number(n: u32) {
-    io::print_decimal(1, n as u64);
+fn number(rt: &impl Print, n: u32) -> io::Result<()> {
+    decimal(rt, n as u64)
 }
 
-fn on_clause(word: &[u8], a: u32) {
-    say(word);
-    say(b" of clause ");
-    number(a);
+fn on_clause(rt: &impl Print, word: &[u8], a: u32) -> io::Result<()> {
+    say(rt, word)?;
+    say(rt, b" of clause ")?;
+    number(rt, a)
 }
 
-fn on_variable(word: &[u8], a: u32) {
-    say(word);
-    say(b" of variable ");
-    number(a);
+fn on_variable(rt: &impl Print, word: &[u8], a: u32) -> io::Result<()> {
+    say(rt, word)?;
+    say(rt, b" of variable ")?;
+    number(rt, a)
 }
 
-fn on_clauses(word: &[u8], a: u32, b: u32) {
-    say(word);
-    say(b" of clauses ");
-    number(a);
-    say(b" and ");
-    number(b);
+fn on_clauses(rt: &impl Print, word: &[u8], a: u32, b: u32) -> io::Result<()> {
+    say(rt, word)?;
+    say(rt, b" of clauses ")?;
+    number(rt, a)?;
+    say(rt, b" and ")?;
+    number(rt, b)
 }
 
 // A step of kinds 1 to 4 or 5 to 7, by the rules' names.
-fn show_early(kind: u32, a: u32, b: u32) {
+fn show_early(rt: &impl Print, kind: u32, a: u32, b: u32) -> io::Result<()> {
     if kind == 1 {
-        on_clause(b"`unit`", a);
-        return;
+        return on_clause(rt, b"`unit`", a);
     }
     if kind == 2 {
-        on_variable(b"`pure`", a);
-        return;
+        return on_variable(rt, b"`pure`", a);
     }
     if kind == 3 {
-        on_clauses(b"`subsume`", a, b);
-        return;
+        return on_clauses(rt, b"`subsume`", a, b);
     }
-    on_clauses(b"`strengthen`", a, b);
+    on_clauses(rt, b"`strengthen`", a, b)
 }
 
-fn show_late(kind: u32, a: u32, b: u32) {
+fn show_late(rt: &impl Print, kind: u32, a: u32, b: u32) -> io::Result<()> {
     if kind == 5 {
-        on_clauses(b"`equality`", a, b);
-        return;
+        return on_clauses(rt, b"`equality`", a, b);
     }
     if kind == 6 {
-        on_variable(b"`resolve`", a);
-        return;
+        return on_variable(rt, b"`resolve`", a);
     }
-    on_variable(b"`expand`", a);
+    on_variable(rt, b"`expand`", a)
 }
 
 // The step, and the entry as it stands in a log: eight hexadecimal digits.
-pub fn show_step(entry: u32) {
+pub fn show_step(rt: &impl Print, entry: u32) -> io::Result<()> {
     let kind = entry / 536870912;
     let a = entry / 262144 % 2048;
     let b = entry / 128 % 2048;
     if kind < 5 {
-        show_early(kind, a, b);
+        show_early(rt, kind, a, b)?;
     } else {
-        show_late(kind, a, b);
+        show_late(rt, kind, a, b)?;
     }
-    say(b" (log entry ");
-    io::print_hex(1, entry as u64, 8);
-    say(b")");
+    say(rt, b" (log entry ")?;
+    hex(rt, entry)?;
+    say(rt, b")")
 }
