@@ -62,7 +62,7 @@ part-later k x y a =
 module _ (l k : ℕ) (x y : List ℕ) (up : ascends (l ∷ x) ≡ true) (too : ascends (k ∷ y) ≡ true) where
   pub part_same : l ≡ k → part_of (l ∷ x) (k ∷ y) ≡ part_of x y
   unfolding part_of all_of
-  part_same e = rw (← e) (rw (has_first l y) (part-later l x y (above-head l x up)))
+  part_same e = rw (← e) (rw (has_first l y) (part-later k x y (rw e at (above-head l x up))))
 
   pub part-past : k < l → part_of (l ∷ x) (k ∷ y) ≡ part_of (l ∷ x) y
   unfolding part_of all_of var
