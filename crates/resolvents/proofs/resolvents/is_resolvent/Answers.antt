@@ -1,0 +1,11 @@
+-- A clause that the two do not cover is not their resolvent; for any other it is made.
+-- Assumes nothing.
+use mathlib.Core.Path.{sym, ◌∙◌}
+use Rattle.resolvents.proofs.ResolvPending.{not_covered}
+use Rattle.resolvents.proofs.resolvents.is_resolvent.Goals as goal
+
+pub returns-then-covered : goal.returns-then-covered
+returns-then-covered c = c.merges_to.ensures
+
+pub returns : goal.returns
+returns c = λ q g k. sym (not_covered q _ _ _ _ (sym c.covered.ensures ∙ c.if-covered.false))
