@@ -8,7 +8,7 @@ use shows::{high, low, reach};
 // The first n numbers of a table.
 fn put_numbers(out: &mut [u8], at: usize, t: &[u16], n: usize) -> usize
     requires { (at ≤ length out.old) × (n ≤ length t.now) }
-    ensures* { do ⌜ result ≤ (← (⟦out.len()⟧).entry) ⌝ }
+    ensures { result ≤ length out.old }
 {
     if (out.len() - at) / 2 < n {
         return at;
@@ -25,7 +25,7 @@ fn put_numbers(out: &mut [u8], at: usize, t: &[u16], n: usize) -> usize
 // A table: its length, how many numbers follow, and these.
 fn put_table(out: &mut [u8], at: usize, t: &[u16]) -> usize
     requires { at ≤ length out.old }
-    ensures* { do ⌜ result ≤ (← (⟦out.len()⟧).entry) ⌝ }
+    ensures { result ≤ length out.old }
 {
     let n = reach(t);
     let e = put_number(out, at, t.len() as u64, 4);
@@ -35,7 +35,7 @@ fn put_table(out: &mut [u8], at: usize, t: &[u16]) -> usize
 
 // The answer, the record and n.
 pub fn put_front(out: &mut [u8], answer: u8, c: Counts, n: usize) -> usize
-    ensures* { do ⌜ result ≤ (← (⟦out.len()⟧).entry) ⌝ }
+    ensures { result ≤ length out.old }
 {
     let e = put_number(out, 0, answer as u64, 1);
     let f = put_number(out, e, c.second as u64, 1);
@@ -47,7 +47,7 @@ pub fn put_front(out: &mut [u8], answer: u8, c: Counts, n: usize) -> usize
 
 fn put_all(out: &mut [u8], at: usize, bytes: &[u8]) -> usize
     requires { at ≤ length out.old }
-    ensures* { do ⌜ result ≤ (← (⟦out.len()⟧).entry) ⌝ }
+    ensures { result ≤ length out.old }
 {
     if out.len() - at < bytes.len() {
         return at;
@@ -63,7 +63,7 @@ fn put_all(out: &mut [u8], at: usize, bytes: &[u8]) -> usize
 // Bytes and their length.
 fn put_bytes(out: &mut [u8], at: usize, bytes: &[u8]) -> usize
     requires { at ≤ length out.old }
-    ensures* { do ⌜ result ≤ (← (⟦out.len()⟧).entry) ⌝ }
+    ensures { result ≤ length out.old }
 {
     let e = put_number(out, at, bytes.len() as u64, 4);
     put_all(out, e, bytes)
@@ -72,7 +72,7 @@ fn put_bytes(out: &mut [u8], at: usize, bytes: &[u8]) -> usize
 // What follows n: the two tables as left, and the bytes.
 fn put_lent(out: &mut [u8], at: usize, first: &[u16], second: &[u16], bytes: &[u8]) -> usize
     requires { at ≤ length out.old }
-    ensures* { do ⌜ result ≤ (← (⟦out.len()⟧).entry) ⌝ }
+    ensures { result ≤ length out.old }
 {
     let e = put_table(out, at, first);
     let f = put_table(out, e, second);
@@ -82,7 +82,7 @@ fn put_lent(out: &mut [u8], at: usize, first: &[u16], second: &[u16], bytes: &[u
 // The same, and a part.
 pub fn put_part(out: &mut [u8], at: usize, first: &[u16], second: &[u16], part: &[u16]) -> usize
     requires { at ≤ length out.old }
-    ensures* { do ⌜ result ≤ (← (⟦out.len()⟧).entry) ⌝ }
+    ensures { result ≤ length out.old }
 {
     let e = put_lent(out, at, first, second, b"");
     put_table(out, e, part)
@@ -91,7 +91,7 @@ pub fn put_part(out: &mut [u8], at: usize, first: &[u16], second: &[u16], part: 
 // The same, and an empty part.
 pub fn put_rest(out: &mut [u8], at: usize, first: &[u16], second: &[u16], bytes: &[u8]) -> usize
     requires { at ≤ length out.old }
-    ensures* { do ⌜ result ≤ (← (⟦out.len()⟧).entry) ⌝ }
+    ensures { result ≤ length out.old }
 {
     let e = put_lent(out, at, first, second, bytes);
     put_number(out, e, 0, 8)
@@ -106,7 +106,7 @@ pub fn put_values(
     values: &[u64; 3],
 ) -> usize
     requires { at ≤ length out.old }
-    ensures* { do ⌜ result ≤ (← (⟦out.len()⟧).entry) ⌝ }
+    ensures { result ≤ length out.old }
 {
     let mut bytes = [0u8; 24];
     let e = put_number(&mut bytes, 0, values[0], 8);
