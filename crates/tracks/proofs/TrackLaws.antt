@@ -11,7 +11,7 @@ use lib.ListN.{length, length-append}
 use Rattle.meaning.specs.Lists.{all_of}
 use Rattle.meaning.specs.Formula.{var, mentions}
 use Rattle.meaning.specs.Tidy.{tidy, add_tidied, build_on, build, tidied}
-use Rattle.meaning.specs.WellFormed.{literals, fits, max_variables, max_clauses, max_literals}
+use Rattle.meaning.specs.WellFormed.{fits, max_variables, max_clauses, max_literals}
 use Rattle.qdimacs.specs.Faults.{TOO-BIG}
 use Rattle.qdimacs.specs.Read.{State, faulty, after_clause, passes_literals, act}
 use Rattle.qdimacs.specs.declared.Phase.{Phase}
