@@ -6,7 +6,7 @@ use Prim.Native.String.{String}
 use Rattle.meaning.specs.Formula.{Formula}
 use Rattle.meaning.specs.Game.{is_true}
 use Rattle.meaning.specs.WellFormed.{literals}
-use Rattle.rules.specs.Entry.{Kind, unit, pure, subsume, strengthen, equality, resolve, expand, entry, entry_bytes}
+use Rattle.rules.specs.Entry.{Kind, pure, equality, resolve, expand, entry, entry_bytes}
 use Rattle.rules.specs.Step.{StepAnswer, refused, stepped, refusal_number, step_of}
 use Rattle.rules.specs.Run.{Ran, run, outcome_number}
 use Rattle.qdimacs.specs.Read.{Answer, fault, good, read}
