@@ -2,14 +2,11 @@
 -- Assumes nothing.
 use mathlib.Core.Path.{◌≡◌, refl}
 use mathlib.Core.Bool.{Bool, true, false, cond}
-use mathlib.Core.List.{[], ◌∷◌}
 use mathlib.Core.Option.{none, some}
 use Prim.Native.Nat.{ℕ, ◌+◌, ◌*◌, ◌≤◌, ◌<◌}
 use native.Mathlib.Omega.{arith}
 use borrow.Author.Tests.{lt-ltb, le-ltb, eq-eqb, ne_eqb}
 use lib.Dec.{eqb}
-use types.Run.{OneOf, miss}
-use denote.Enum.Declared.{tag_of}
 use Rattle.meaning.specs.Formula.{var}
 use Rattle.qdimacs.specs.Faults.{SYNTAX, RANGE, TWICE, UNBOUND, COUNT}
 use Rattle.qdimacs.specs.Words.{variable_of, plain_of, literal_of}
@@ -18,12 +15,11 @@ use Rattle.qdimacs.specs.declared.Word.{Word}
 use Rattle.qdimacs.specs.declared.Word.TheVariants.{P, Cnf, E, A, Plain, Minus, Other}
 use Rattle.qdimacs.specs.declared.Move.{Move}
 use Rattle.qdimacs.specs.declared.Move.TheVariants.{Fault, Close, Literal, Entry}
-use Rattle.qdimacs.specs.contracts.Word.{the_type}
 
 -- The arm `_`: the word is of a variant that no other arm names ----------------------------------------------
-pub not-p : (w : Word) → OneOf (1 ∷ 2 ∷ 3 ∷ 4 ∷ 5 ∷ 6 ∷ []) (tag_of the_type w) → Fault SYNTAX ≡ on_p w
+pub not-p : (w : Word) → (w ≡ P → ⊥) → Fault SYNTAX ≡ on_p w
 unfolding on_p
-not-p P h = absurd (miss (1 ∷ 2 ∷ 3 ∷ 4 ∷ 5 ∷ 6 ∷ []) 0 tt h)
+not-p P h = absurd (h refl)
 not-p Cnf h = refl
 not-p E h = refl
 not-p A h = refl
@@ -31,47 +27,47 @@ not-p (Plain n) h = refl
 not-p (Minus n) h = refl
 not-p Other h = refl
 
-pub not-cnf : (w : Word) → OneOf (0 ∷ 2 ∷ 3 ∷ 4 ∷ 5 ∷ 6 ∷ []) (tag_of the_type w) → Fault SYNTAX ≡ on_cnf w
+pub not-cnf : (w : Word) → (w ≡ Cnf → ⊥) → Fault SYNTAX ≡ on_cnf w
 unfolding on_cnf
 not-cnf P h = refl
-not-cnf Cnf h = absurd (miss (0 ∷ 2 ∷ 3 ∷ 4 ∷ 5 ∷ 6 ∷ []) 1 tt h)
+not-cnf Cnf h = absurd (h refl)
 not-cnf E h = refl
 not-cnf A h = refl
 not-cnf (Plain n) h = refl
 not-cnf (Minus n) h = refl
 not-cnf Other h = refl
 
-pub not_plain : (w : Word) → OneOf (0 ∷ 1 ∷ 2 ∷ 3 ∷ 5 ∷ 6 ∷ []) (tag_of the_type w) → plain_of w ≡ none
+pub not_plain : (w : Word) → ((n : ℕ) → w ≡ Plain n → ⊥) → plain_of w ≡ none
 unfolding plain_of
 not_plain P h = refl
 not_plain Cnf h = refl
 not_plain E h = refl
 not_plain A h = refl
-not_plain (Plain n) h = absurd (miss (0 ∷ 1 ∷ 2 ∷ 3 ∷ 5 ∷ 6 ∷ []) 4 tt h)
+not_plain (Plain n) h = absurd (h n refl)
 not_plain (Minus n) h = refl
 not_plain Other h = refl
 
 -- a word that is no number
-pub not-number : (w : Word) → OneOf (0 ∷ 1 ∷ 2 ∷ 3 ∷ 6 ∷ []) (tag_of the_type w) → (literal_of w ≡ none) × (0 ≡ variable_of w)
+pub not-number : (w : Word) → ((n : ℕ) → w ≡ Plain n → ⊥) → ((n : ℕ) → w ≡ Minus n → ⊥) → (literal_of w ≡ none) × (0 ≡ variable_of w)
 unfolding literal_of variable_of
-not-number P h = (refl, refl)
-not-number Cnf h = (refl, refl)
-not-number E h = (refl, refl)
-not-number A h = (refl, refl)
-not-number (Plain n) h = absurd (miss (0 ∷ 1 ∷ 2 ∷ 3 ∷ 6 ∷ []) 4 tt h)
-not-number (Minus n) h = absurd (miss (0 ∷ 1 ∷ 2 ∷ 3 ∷ 6 ∷ []) 5 tt h)
-not-number Other h = (refl, refl)
+not-number P h k = (refl, refl)
+not-number Cnf h k = (refl, refl)
+not-number E h k = (refl, refl)
+not-number A h k = (refl, refl)
+not-number (Plain n) h k = absurd (h n refl)
+not-number (Minus n) h k = absurd (k n refl)
+not-number Other h k = (refl, refl)
 
-pub not-letter : (m c : ℕ) (b : Bool) (w : Word) → OneOf (0 ∷ 1 ∷ 4 ∷ 5 ∷ 6 ∷ []) (tag_of the_type w)
+pub not-letter : (m c : ℕ) (b : Bool) (w : Word) → (w ≡ E → ⊥) → (w ≡ A → ⊥)
     → on_line m c b w ≡ cond (eqb c 0) (Fault COUNT) (on_literal m b (literal_of w))
 unfolding on_line literal_of on_literal
-not-letter m c b P h = refl
-not-letter m c b Cnf h = refl
-not-letter m c b E h = absurd (miss (0 ∷ 1 ∷ 4 ∷ 5 ∷ 6 ∷ []) 2 tt h)
-not-letter m c b A h = absurd (miss (0 ∷ 1 ∷ 4 ∷ 5 ∷ 6 ∷ []) 3 tt h)
-not-letter m c b (Plain n) h = refl
-not-letter m c b (Minus n) h = refl
-not-letter m c b Other h = refl
+not-letter m c b P h k = refl
+not-letter m c b Cnf h k = refl
+not-letter m c b E h k = absurd (h refl)
+not-letter m c b A h k = absurd (k refl)
+not-letter m c b (Plain n) h k = refl
+not-letter m c b (Minus n) h k = refl
+not-letter m c b Other h k = refl
 
 -- A number of a clause, as the literal l ---------------------------------------------------------------------
 module _ (m : ℕ) (b : Bool) (l : ℕ) where

@@ -1,0 +1,17 @@
+use Rattle.qdimacs.specs.Decide.{on_c}
+use Rattle.qdimacs.specs.Words.{plain_of}
+use Rattle.scan.proofs.Arms.{not_plain}
+use borrow.Author.Tests.{lt-ltb, le-ltb}
+use Rattle.scan.proofs.moves.on_c.Goals as goal
+
+pub returns-then-n-gt-MAX_CLAUSES : goal.returns-then-n-gt-MAX_CLAUSES
+unfolding on_c plain_of
+returns-then-n-gt-MAX_CLAUSES c = rw (c.in-Plain.is, lt-ltb _ _ c.if-n-gt-MAX_CLAUSES.true)
+
+pub returns-else-n-gt-MAX_CLAUSES : goal.returns-else-n-gt-MAX_CLAUSES
+unfolding on_c plain_of
+returns-else-n-gt-MAX_CLAUSES c = rw (c.in-Plain.is, le-ltb _ _ c.if-n-gt-MAX_CLAUSES.false)
+
+pub returns-in_default : goal.returns-in_default
+unfolding on_c
+returns-in_default c = rw (not_plain _ c.in_default.not-Plain)
