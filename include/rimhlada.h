@@ -1,7 +1,7 @@
 /*
  * Rimhlada: a preprocessor for quantified Boolean formulas in prenex CNF, for C and C++.
  *
- * Link with libexports.a, which `rt staticlib exports` writes to target/staticlib/ (x86-64 Linux). examples/build shows how.
+ * Link with libexports.a, which `rt lib` in crates/exports writes to crates/exports/out/ (x86-64 Linux). examples/build shows how.
  *
  * What a call lends. Two work tables of RIMHLADA_TABLE sixteen-bit numbers, `first` and `second`, and a record that says which of the
  * two holds the formula and how much of it is used. The other one is spare. A call of rimhlada_read fills both, whatever is in them;

@@ -1,26 +1,27 @@
-# For scripts that run our programs, or another x86-64 program in the same way, or build one; sourced, with $home the repository.
+# For scripts that run our programs, or build one over the library; sourced, with $home the repository.
 
-# Proves and builds a program if it is not there, and says so on standard error.
+# Where rt puts a program that it has proved and built.
+program_of() { # NAME
+    echo "$home/crates/$1/out/$1"
+}
+
+# Proves and builds a program if it is not there, and says so on standard error. rt runs what it builds, here on no input.
 need_program() { # NAME
     if ! command -v rt >/dev/null 2>&1; then
         echo "$1: the Rattle toolchain's command rt is not on the PATH" >&2
         return 1
     fi
-    [ -x "$home/target/bin/$1" ] && return 0
+    [ -x "$(program_of "$1")" ] && return 0
     echo "$1: proving and building the program, once; this takes some minutes, and each crate is named when it is done" >&2
-    if ! (cd "$home" && rt check "$1") >&2; then
+    if ! (cd "$home/crates/$1" && rt run </dev/null >/dev/null) || ! [ -x "$(program_of "$1")" ]; then
         echo "$1: the program could not be proved and built" >&2
         return 1
     fi
 }
 
-# Sets `launch`, the words that go before the path of a program. As rt runs one: under the kit's loader and C library, and on a
-# processor that is no x86-64 under its emulator.
-find_launch() {
-    local kit
-    kit=$(dirname "$(dirname "$(readlink -f "$(command -v rt)")")")/toolchain
-    launch=("$kit/lib/ld-linux-x86-64.so.2" --library-path "$kit/lib")
-    if [ -x "$kit/bin/qemu-x86_64" ]; then launch=("$kit/bin/qemu-x86_64" "${launch[@]}"); fi
+# Proves the crate exports and builds its archive, over what earlier runs kept.
+build_archive() {
+    (cd "$home/crates/exports" && rt lib)
 }
 
 # Installs a Debian package where a command of it is missing, and says so.
