@@ -1,0 +1,6 @@
+-- By what each call gives.
+-- Assumes nothing.
+use Rattle.reader.proofs.turns.judge.Goals as goal
+
+pub returns : goal.returns
+returns c = λ p h e. let b = c.seen-b.ensures p h e in cc
