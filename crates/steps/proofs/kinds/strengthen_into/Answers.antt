@@ -1,0 +1,31 @@
+-- One recipe; where the step is permitted there is a literal.
+-- Assumes nothing.
+use Rattle.rebuilds.proofs.GivenLaws.{begun-held, begun-ranks, begun-well}
+use Rattle.steps.proofs.MadeLaws.{strengthen-made, strengthen-never}
+use mathlib.Core.Path.{refl}
+use Rattle.recipes.specs.Left.{about}
+use Rattle.steps.proofs.kinds.strengthen_into.Goals as goal
+
+pub strengthening_of-requires-clause-held : goal.strengthening_of-requires-clause-held
+strengthening_of-requires-clause-held c = begun-held c.requires
+
+pub strengthening_of-requires-clause-ranks_len : goal.strengthening_of-requires-clause-ranks_len
+strengthening_of-requires-clause-ranks_len c = begun-ranks c.requires
+
+pub rebuild-requires-clause-held : goal.rebuild-requires-clause-held
+rebuild-requires-clause-held c = begun-held c.requires
+
+pub rebuild-requires-clause-c_value : goal.rebuild-requires-clause-c_value
+rebuild-requires-clause-c_value c = (begun-well c.requires, (unfold about in refl))
+
+pub rebuild-requires-clause-target_value : goal.rebuild-requires-clause-target_value
+rebuild-requires-clause-target_value c = c.requires.empty
+
+pub rebuild-requires-clause-scratch_len : goal.rebuild-requires-clause-scratch_len
+rebuild-requires-clause-scratch_len c = (c.requires.room, begun-ranks c.requires)
+
+pub returns-in-By : goal.returns-in-By
+returns-in-By c = λ φ g p. strengthen-made φ _ _ p _ (c.strengthening_of.ensures φ g.holds g.well g.ranked) g _ _ c.in-By.is c.flip.ensures (c.rebuild.ensures.built φ g.holds)
+
+pub returns-in-No : goal.returns-in-No
+returns-in-No c = λ φ g p. strengthen-never φ _ _ p _ (c.strengthening_of.ensures φ g.holds g.well g.ranked) c.in-No.is
