@@ -1,7 +1,7 @@
 -- Pairs of which nothing comes, and the search for the next one.
 -- Assumes nothing.
 use Prim.Native.Nat.{ℕ, suc, ◌+◌, ◌≤◌, ◌<◌}
-use mathlib.Core.Path.{◌≡◌, refl, sym, ap, ◌∙◌}
+use mathlib.Core.Path.{◌≡◌, sym, ap, ◌∙◌}
 use mathlib.Core.Bool.{Bool, true, false, ◌||◌, not, or_assoc}
 use mathlib.Core.List.{List, [], ◌++◌}
 use lib.Dec.{eqb}
