@@ -11,7 +11,7 @@ use lib.Dec.{leb}
 use native.Mathlib.Omega.{arith}
 use Rattle.meaning.specs.Lists.{all_of, keep_if, up_from}
 use Rattle.meaning.specs.Formula.{Formula, var, plain, mentions}
-use Rattle.meaning.specs.WellFormed.{fits, literals, max_variables}
+use Rattle.meaning.specs.WellFormed.{fits, max_variables}
 use Rattle.rules.specs.Eliminate.{fresh}
 use Rattle.table.specs.Table.{table_of, counts_of, with_variable, Holds}
 use Rattle.table.specs.Answer.{Became, Built}

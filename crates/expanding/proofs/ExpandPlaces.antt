@@ -22,7 +22,7 @@ use Rattle.meaning.proofs.Lists.{any_append, any-agree}
 use Rattle.meaning.proofs.Literals.{odd_is, even_is, var-of-plain}
 use Rattle.meaning.proofs.Prefix.{good-out, good-tail}
 use Rattle.rules.proofs.Rename.{copies-mention, rename-out}
-use Rattle.rules.proofs.Place.{place, meet}
+use Rattle.rules.proofs.Place.{meet}
 use Rattle.permits.proofs.PlaceLaws.{behind}
 
 -- Places ------------------------------------------------------------------------------------------------------------
