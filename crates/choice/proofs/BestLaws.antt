@@ -14,11 +14,9 @@ use Rattle.rules.specs.Entry.{Kind, resolve, expand}
 use Rattle.rules.specs.Step.{permitted, result_of}
 use Rattle.rules.specs.Choice.{costly, light, wanted, allowed_call, blocked_call, firsts, Found, none, found, lighter, lightest, candidate}
 use Rattle.growth.specs.Weights.{weighed, weighed_step}
-use Rattle.growth.specs.declared.Weighed.{Weighed}
 use Rattle.growth.specs.declared.Weighed.TheVariants.{Over, Fitting, Wide}
 use Rattle.meaning.proofs.Basics.{by_cases, and_l, and_r, or-false}
 use Rattle.choice.specs.Chosen.{best_as, any_of_kind, best_of, limit_of, roomless, considered, consider_all, nothing_yet}
-use Rattle.choice.specs.declared.Best.{Best}
 use Rattle.choice.specs.declared.Best.TheVariants.{Nothing, Lightest}
 use Rattle.choice.specs.declared.Standing.{Standing}
 

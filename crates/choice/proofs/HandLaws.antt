@@ -9,7 +9,6 @@ use lib.ListN.{length, take}
 use lib.Seq.{length-take-le}
 use Rattle.meaning.specs.Lists.{has}
 use Rattle.meaning.specs.Formula.{Formula, universal}
-use Rattle.meaning.specs.Game.{empty_clause}
 use Rattle.meaning.specs.WellFormed.{well_formed}
 use Rattle.table.specs.Table.{Holds, Held}
 use Rattle.table.specs.Ranks.{ranks_of, good_entries, Ranked}

@@ -2,17 +2,17 @@
 -- Assumes nothing.
 use Prim.Native.Nat.{ℕ, ◌<◌}
 use mathlib.Core.Path.{◌≡◌, refl, sym, ap, ◌∙◌, fun_ext}
-use mathlib.Core.Bool.{Bool, true, false, ◌&&◌, ◌||◌, not, cond}
+use mathlib.Core.Bool.{Bool, true, false, ◌&&◌, ◌||◌}
 use mathlib.Core.List.{List, [], ◌∷◌}
 use native.Mathlib.Omega.{arith}
 use lib.ListN.{length}
 use Rattle.meaning.specs.Lists.{any_of}
 use Rattle.meaning.specs.Formula.{Formula}
 use Rattle.meaning.specs.Game.{empty_clause, no_clause}
-use Rattle.meaning.specs.WellFormed.{well_formed, fits}
+use Rattle.meaning.specs.WellFormed.{fits}
 use Rattle.rules.specs.Entry.{Kind, unit, pure, subsume, strengthen, equality, resolve, expand, uses_b, entry}
 use Rattle.rules.specs.Step.{permitted, result_of}
-use Rattle.rules.specs.Choice.{Found, none, found, costly, wanted, blocked_call, firsts, seconds, candidate, kinds, any_blocked, stuck, take_found, choose_of, choose}
+use Rattle.rules.specs.Choice.{Found, none, found, costly, wanted, blocked_call, firsts, seconds, candidate, any_blocked, stuck, take_found, choose_of, choose}
 use Rattle.rules.specs.Run as rules
 use Rattle.rules.specs.Run.{over, step, true_end, false_end}
 use Rattle.rules.proofs.Permitted.{allowed-wanted, wanted-permitted}
@@ -22,8 +22,8 @@ use Rattle.search.specs.Candidates.{found_as}
 use Rattle.search.specs.declared.Found as search
 use Rattle.search.specs.declared.Found.TheVariants.{Nothing, Pair}
 use Rattle.search.specs.Searched.{SearchedTo}
-use Rattle.meaning.proofs.Basics.{by_cases, or-false}
-use Rattle.choice.specs.Chosen.{end_as, next_as, best_as, any_of_kind, best_of, kinds_after, stuck_as, next_from, SearchedAfter, ChosenAs}
+use Rattle.meaning.proofs.Basics.{or-false}
+use Rattle.choice.specs.Chosen.{next_as, best_as, any_of_kind, best_of, kinds_after, stuck_as, next_from, SearchedAfter, ChosenAs}
 use Rattle.choice.specs.declared.Chosen.{Chosen}
 use Rattle.choice.specs.declared.Next.{Next}
 use Rattle.choice.specs.declared.Next.TheVariants.{Step}

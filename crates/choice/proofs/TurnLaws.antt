@@ -1,8 +1,8 @@
 -- The loop over the variables, one turn and the end.
 -- Assumes nothing.
 use Prim.Native.Nat.{ℕ, suc, ◌+◌, ◌/◌, ◌<◌, ◌≤◌}
-use mathlib.Core.Path.{◌≡◌, refl, sym, ap, ◌∙◌}
-use mathlib.Core.List.{List, [], ◌∷◌, map}
+use mathlib.Core.Path.{◌≡◌, sym, ap, ◌∙◌}
+use mathlib.Core.List.{List, map}
 use native.Mathlib.Numerals.{add-one}
 use native.Mathlib.Omega.{arith}
 use lib.ListN.{length, get_or, drop, drop_of_length-le}
@@ -11,14 +11,14 @@ use Rattle.meaning.specs.Formula.{Formula, var}
 use Rattle.meaning.specs.WellFormed.{weight}
 use Rattle.rules.specs.Entry.{Kind, resolve, expand}
 use Rattle.rules.specs.Choice.{firsts, variables}
-use Rattle.table.specs.Table.{Holds, Held, counts_of}
+use Rattle.table.specs.Table.{Holds, Held}
 use Rattle.table.specs.declared.Counts.{Counts}
 use Rattle.growth.specs.Weights.{weighed_step}
 use Rattle.growth.specs.declared.Weighed.{Weighed}
 use Rattle.table.proofs.HoldLaws.{held, count-variables, count-clauses, count-literals}
 use Rattle.table.proofs.RankLaws.{length-ranks}
 use Rattle.search.proofs.PrefixLaws.{entry_at}
-use Rattle.choice.specs.Chosen.{best_of, considered, consider_all, nothing_yet, Ranks, Ranked}
+use Rattle.choice.specs.Chosen.{best_of, considered, consider_all, nothing_yet, Ranked}
 use Rattle.choice.specs.declared.Standing.{Standing}
 use Rattle.choice.proofs.BestLaws.{best-resolve, best-expand}
 

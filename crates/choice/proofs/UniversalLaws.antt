@@ -1,8 +1,8 @@
 -- The first universal right of a variable, from variable to variable.
 -- Assumes nothing.
-use Prim.Native.Nat.{ℕ, zero, suc, ◌+◌, ◌/◌, ◌%◌, ◌≤◌, ◌<◌}
-use mathlib.Core.Path.{◌≡◌, refl, sym, ap, ◌∙◌}
-use mathlib.Core.Bool.{Bool, true, false, cond}
+use Prim.Native.Nat.{ℕ, zero, suc, ◌+◌, ◌/◌, ◌%◌, ◌<◌}
+use mathlib.Core.Path.{◌≡◌, sym, ap, ◌∙◌}
+use mathlib.Core.Bool.{true}
 use mathlib.Core.List.{List, [], ◌∷◌}
 use native.Mathlib.Numerals.{add-one}
 use native.Mathlib.Omega.{arith}
@@ -15,7 +15,7 @@ use Rattle.rules.specs.Eliminate.{from_universal}
 use Rattle.table.specs.Table.{Holds}
 use Rattle.table.specs.declared.Counts.{Counts}
 use Rattle.weigh.specs.Resolving.{FirstUniversal}
-use Rattle.meaning.proofs.Basics.{by_cases, clash, eqb-self, eqb-true, eqb-false, eqb-ne, eqb-eq}
+use Rattle.meaning.proofs.Basics.{by_cases, clash, eqb-self, eqb-true, eqb-false, eqb-ne}
 use Rattle.meaning.proofs.Parts.{good_of}
 use Rattle.meaning.proofs.Prefix.{good-out, good-tail}
 use Rattle.table.proofs.HoldLaws.{prefix-is, count-variables}

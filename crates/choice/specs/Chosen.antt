@@ -1,6 +1,6 @@
 -- The code's answers for what the run does next, and for the best step of kind 6 or 7.
 -- Assumes nothing.
-use Rattle.std.specs.Prelude.{◌≡◌, ℕ, ◌+◌, Bool, true, false, cond, List, [], ◌∷◌}
+use Rattle.std.specs.Prelude.{◌≡◌, ℕ, ◌+◌, Bool, true, false, List, [], ◌∷◌}
 use Rattle.meaning.specs.Lists.{any_of}
 use Rattle.meaning.specs.Formula.{Formula}
 use Rattle.meaning.specs.Game.{empty_clause}
