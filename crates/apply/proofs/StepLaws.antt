@@ -2,14 +2,14 @@
 -- Assumes nothing.
 use Prim.Native.Nat.{ℕ}
 use mathlib.Core.Path.{◌≡◌, refl, sym, ap, ◌∙◌}
-use mathlib.Core.Bool.{Bool, true, false, not, cond, false≢true}
+use mathlib.Core.Bool.{Bool, true, false, cond, false≢true}
 use mathlib.Core.List.{List}
 use native.Mathlib.Omega.{arith}
 use Rattle.meaning.specs.Formula.{Formula}
-use Rattle.meaning.specs.WellFormed.{well_formed, fits}
+use Rattle.meaning.specs.WellFormed.{fits}
 use Rattle.rules.specs.Entry.{Call, bad, call, read_entry}
-use Rattle.rules.specs.Step.{permitted, result_of, Refusal, entry_bad, not_permitted, no_room, StepAnswer, refused, stepped, in_room, step_call, step_of}
-use Rattle.table.specs.Table.{table_of, counts_of, empty_formula, Holds}
+use Rattle.rules.specs.Step.{Refusal, entry_bad, not_permitted, no_room, StepAnswer, refused, stepped, in_room, step_call, step_of}
+use Rattle.table.specs.Table.{table_of, counts_of, empty_formula}
 use Rattle.table.specs.Answer.{Built}
 use Rattle.table.specs.declared.Counts.{Counts}
 use Rattle.table.specs.declared.Pushed.{Pushed}
