@@ -2,7 +2,7 @@
 -- Assumes nothing.
 use Prim.Native.Nat.{ℕ, ◌+◌, ◌≤◌, ◌<◌}
 use mathlib.Core.Path.{◌≡◌, refl, sym, ap, ◌∙◌}
-use mathlib.Core.Bool.{Bool, true, false, ◌&&◌, not}
+use mathlib.Core.Bool.{Bool, true, false, not}
 use mathlib.Core.List.{List, [], ◌∷◌}
 use lib.ListN.{length, get_or, take, drop, drop_of_length-le, get_or-eq_default}
 use lib.Seq.{drop-cons}
@@ -12,14 +12,14 @@ use native.Mathlib.Nat.{add-zero, zero-add}
 use native.Mathlib.Omega.{arith}
 use borrow.Author.Tests.{le-leb, lt-leb, ltb-true, ltb-false}
 use Rattle.meaning.specs.Lists.{any_of, first_passing}
-use Rattle.meaning.specs.Formula.{Formula, var, mentions, right_of}
+use Rattle.meaning.specs.Formula.{Formula, var, mentions}
 use Rattle.meaning.specs.WellFormed.{bound, good_prefix, well_formed}
-use Rattle.rules.specs.Simplify.{clause_at, is_clause}
+use Rattle.rules.specs.Simplify.{clause_at}
 use Rattle.rules.specs.Eliminate.{from_universal, avoids}
 use Rattle.table.specs.Table.{Holds}
 use Rattle.table.specs.declared.Counts.{Counts}
 use Rattle.permits.specs.Places.{place_of, within}
-use Rattle.reasons.specs.Reason.{universal_after, far_part, reaches_far, first_index, far_clause, leftmost_in, far_variable}
+use Rattle.reasons.specs.Reason.{far_part, reaches_far, first_index, far_clause, leftmost_in, far_variable}
 use Rattle.meaning.proofs.Basics.{by_cases}
 use Rattle.meaning.proofs.Lists.{all-agree}
 use Rattle.meaning.proofs.Parts.{bound_of}

@@ -4,16 +4,13 @@ use Prim.Native.Nat.{ℕ, ◌≤◌, ◌<◌}
 use mathlib.Core.Path.{◌≡◌, refl, sym, ap, ◌∙◌}
 use mathlib.Core.Bool.{Bool, true, false, ◌&&◌, not, cond}
 use lib.Dec.{leb}
-use lib.ListN.{length}
 use borrow.Author.Tests.{le-leb, lt-leb}
 use Rattle.meaning.specs.Formula.{Formula}
-use Rattle.meaning.specs.WellFormed.{literals, fits}
 use Rattle.table.specs.Table.{counts_of}
 use Rattle.table.specs.declared.Counts.{Counts}
 use Rattle.reasons.specs.Reason.{of_variables, of_clauses, of_literals, within, first_limit}
 use Rattle.reasons.proofs.Limits.{fits-is}
 use Rattle.reasoning.specs.Whys.{limit_as, limit_or}
-use Rattle.reasoning.specs.declared.Why.{Why}
 use Rattle.reasoning.specs.declared.Why.TheVariants.{OwnEntry, OverVariables, OverClauses, OverLiterals}
 
 -- by the three tests

@@ -1,27 +1,26 @@
 -- The reason by what the run does next: a verdict, an entry of kinds 1 to 5, or by the variable.
 -- Assumes nothing.
-use Prim.Native.Nat.{ℕ, ◌+◌, ◌*◌, ◌/◌, ◌≤◌, ◌<◌}
+use Prim.Native.Nat.{ℕ, ◌/◌, ◌≤◌, ◌<◌}
 use mathlib.Core.Path.{◌≡◌, refl, sym, ap, ◌∙◌}
-use mathlib.Core.Bool.{Bool, true, false, cond}
+use mathlib.Core.Bool.{true, false}
 use native.Mathlib.Omega.{arith}
 use Rattle.meaning.specs.Formula.{Formula}
 use Rattle.meaning.specs.WellFormed.{well_formed, fits}
 use Rattle.rules.specs.Entry.{Kind, code, entry}
-use Rattle.rules.specs.Choice.{costly, choose, take_step}
+use Rattle.rules.specs.Choice.{costly}
 use Rattle.rules.specs.Run as rules
 use Rattle.rules.specs.Run.{true_end, false_end, finished, out_of_room, over, step}
 use Rattle.choice.specs.Chosen.{end_as, next_as}
-use Rattle.choice.specs.declared.End.{End}
 use Rattle.choice.specs.declared.End.TheVariants as end
 use Rattle.choice.specs.declared.Next.{Next}
 use Rattle.choice.specs.declared.Next.TheVariants as next
 use Rattle.reasons.specs.Reason.{why_left, reason_at, reason_of}
-use Rattle.reasons.specs.Statement.{NoVerdict, Quiet}
-use Rattle.meaning.proofs.Basics.{by_cases, clash}
+use Rattle.reasons.specs.Statement.{Quiet}
+use Rattle.meaning.proofs.Basics.{by_cases}
 use Rattle.rules.proofs.Entries.{Fields, code-range}
 use Rattle.rules.proofs.Next.{over-step, next-step, next-over}
 use Rattle.rules.proofs.Chosen.{takes-fields}
-use Rattle.reasons.proofs.Nexts.{low-cheap, costly-high, cheap-low, verdict-or, stuck-quiet, costly-quiet}
+use Rattle.reasons.proofs.Nexts.{low-cheap, cheap-low, verdict-or, stuck-quiet, costly-quiet}
 use Rattle.reasons.proofs.Reasons.{quiet-left}
 use Rattle.reasoning.specs.Whys.{why_as}
 use Rattle.reasoning.specs.declared.Why.{Why}

@@ -1,26 +1,24 @@
 -- The reason of a variable by its step of kind 6 or 7: not permitted, too heavy, or by the limits.
 -- Assumes nothing.
 use Prim.Native.Nat.{ℕ, ◌+◌, ◌≤◌, ◌<◌}
-use mathlib.Core.Path.{◌≡◌, refl, sym, ap, ◌∙◌}
-use mathlib.Core.Bool.{Bool, true, false, ◌&&◌, ◌||◌, not, cond}
+use mathlib.Core.Path.{◌≡◌, sym, ap, ◌∙◌}
+use mathlib.Core.Bool.{Bool, true, false}
 use mathlib.Core.List.{List}
-use lib.ListN.{length}
 use native.Mathlib.Omega.{arith}
 use borrow.Author.Tests.{lt-ltb, le-ltb, le-leb, lt-leb}
-use Rattle.meaning.specs.Formula.{Formula, mentions, existential, universal}
+use Rattle.meaning.specs.Formula.{Formula, mentions, universal}
 use Rattle.meaning.specs.WellFormed.{well_formed, fits, weight}
-use Rattle.rules.specs.Simplify.{subsume_permitted}
 use Rattle.rules.specs.Eliminate.{resolve_permitted, expand_permitted}
 use Rattle.rules.specs.Entry.{subsume, resolve, expand, code, entry}
 use Rattle.rules.specs.Step.{permitted, result_of}
 use Rattle.rules.specs.Choice.{costly, light, wanted, allowed_call}
-use Rattle.table.specs.Table.{Holds, counts_of}
+use Rattle.table.specs.Table.{Holds}
 use Rattle.table.specs.declared.Counts.{Counts}
 use Rattle.table.specs.Ranks.{ranks_of}
 use Rattle.index.specs.Build.{HeldWell}
 use Rattle.choice.specs.Chosen.{Ranks}
 use Rattle.growth.specs.Weights.{NoneSubsumed, Summable}
-use Rattle.reasons.specs.Reason.{own_entry, not_lighter, too_heavy, over_limit, universal_after, existential_after, far_clause, far_variable, why_existential, why_universal, why_left}
+use Rattle.reasons.specs.Reason.{universal_after, existential_after, far_clause, far_variable, why_existential, why_universal, why_left}
 use Rattle.reasons.specs.Statement.{Quiet}
 use Rattle.meaning.proofs.Basics.{by_cases}
 use Rattle.meaning.proofs.Prefix.{exists-mentioned}
@@ -28,9 +26,9 @@ use Rattle.reasons.proofs.Left.{existential-counts, existential-far, existential
 use Rattle.reasons.proofs.Between.{between-true}
 use Rattle.table.proofs.HoldLaws.{holds-bounds}
 use Rattle.reasoning.specs.AtHand.{HeldQuiet}
-use Rattle.reasoning.specs.Whys.{limit_as, why_as, limit_or}
+use Rattle.reasoning.specs.Whys.{why_as, limit_or}
 use Rattle.reasoning.specs.declared.Why.{Why}
-use Rattle.reasoning.specs.declared.Why.TheVariants.{OwnEntry, TooFarRight, NotLighter, Between, TooHeavy}
+use Rattle.reasoning.specs.declared.Why.TheVariants.{TooFarRight, NotLighter, Between, TooHeavy}
 
 -- the counts of a formula that is held are small numbers
 pub held-sums : {φ : Formula} {t : List ℕ} {c : Counts} → Holds φ t c → Summable c
