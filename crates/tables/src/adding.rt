@@ -1,9 +1,9 @@
 // Building tables: variables, raw clauses number by number, and one clause many times.
-ghost use Rattle.std.specs.Prelude.{◌≡◌, length, IfOk};
+ghost use Rattle.std.specs.Prelude.{◌≡◌, length, IfOk, IfErr};
 ghost use Rattle.table.specs.Ready.{Ready};
 ghost use Rattle.table.specs.Table.{Held};
 ghost use Rattle.table.specs.Pending.{Pended};
-ghost use Rattle.tables.specs.Going.{Going};
+ghost use Rattle.tables.specs.Going.{Going, StillReady, StillHeld};
 
 use crate::State;
 use crate::showing::{say, say_counts};
@@ -64,7 +64,8 @@ fn close(
 ) -> io::Result<Counts>
     requires ready { Ready t.old ranks.now c }
     requires pended { Pended scratch.old p }
-    ensures { IfOk result (λ d. Ready t.new ranks.now d) }
+    ensures ok { IfOk result (λ d. Ready t.new ranks.now d) }
+    ensures err { IfErr result (λ _. StillReady t.new ranks.now) }
 {
     match table::close_clause(t, c, scratch, p, ranks) {
         Pushed::Done(d) => {
@@ -88,7 +89,8 @@ fn take_number(
     x: u16,
 ) -> io::Result<State>
     requires { Going t.old ranks.now scratch.old s }
-    ensures { IfOk result (λ r. Going t.new ranks.now scratch.new r) }
+    ensures ok { IfOk result (λ r. Going t.new ranks.now scratch.new r) }
+    ensures err { IfErr result (λ _. StillReady t.new ranks.now) }
 {
     let c = s.counts;
     let p = s.pending;
@@ -119,7 +121,8 @@ pub fn add_all(
 ) -> io::Result<Counts>
     requires ready { Ready t.old ranks.now c }
     requires scratch_len { length scratch.old ≡ 1023 }
-    ensures { IfOk result (λ d. Ready t.new ranks.now d) }
+    ensures ok { IfOk result (λ d. Ready t.new ranks.now d) }
+    ensures err { IfErr result (λ _. StillReady t.new ranks.now) }
 {
     let mut s = State {
         counts: c,
@@ -142,7 +145,8 @@ pub fn push_times(
     times: usize,
 ) -> io::Result<Counts>
     requires { Held t.old c }
-    ensures { IfOk result (λ d. Held t.new d) }
+    ensures ok { IfOk result (λ d. Held t.new d) }
+    ensures err { IfErr result (λ _. StillHeld t.new) }
 {
     let mut counts = c;
     let mut i = 0;

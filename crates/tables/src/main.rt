@@ -1,9 +1,10 @@
 // Runs the functions on work tables and prints what comes of each.
 #![tactic(auto)]
 
-ghost use Rattle.std.specs.Prelude.{◌≡◌, length, IfOk};
+ghost use Rattle.std.specs.Prelude.{◌≡◌, length, IfOk, IfErr};
 ghost use Rattle.table.specs.Ready.{Ready};
 ghost use Rattle.table.specs.Table.{Held};
+ghost use Rattle.tables.specs.Going.{StillReady, StillHeld};
 
 use adding::{add_all, begin, push_times, quantify_all};
 use showing::{say, say_counts, say_good, say_literals};
@@ -23,7 +24,8 @@ pub struct State {
 // Adds clauses to a formula `e 1 a 2 e 3 a 4`.
 fn build(rt: &impl Print, t: &mut [u16], ranks: &mut [u16]) -> io::Result<Counts>
     requires { (length t.old ≡ 11261) × (length ranks.old ≡ 1024) }
-    ensures { IfOk result (λ c. Ready t.new ranks.new c) }
+    ensures ok { IfOk result (λ c. Ready t.new ranks.new c) }
+    ensures err { IfErr result (λ _. StillReady t.new ranks.new) }
 {
     let mut scratch = [0u16; 1023];
     let prefix = [2u16, 5, 6, 9];
@@ -108,7 +110,8 @@ fn fill(
     last: &[u16],
 ) -> io::Result<Counts>
     requires { length t.old ≡ 11261 }
-    ensures { IfOk result (λ c. Held t.new c) }
+    ensures ok { IfOk result (λ c. Held t.new c) }
+    ensures err { IfErr result (λ _. StillHeld t.new) }
 {
     let mut ranks = [0u16; 1024];
     let a = begin(t, &mut ranks);
