@@ -1,6 +1,6 @@
 -- The run by its turns: what is done so far, and what is left.
 -- Assumes nothing.
-use Prim.Native.Nat.{ℕ, zero, suc, ◌+◌, ◌-◌, ◌*◌, ◌<◌, ◌≤◌}
+use Prim.Native.Nat.{ℕ, zero, suc, ◌+◌, ◌-◌, ◌*◌, ◌<◌}
 use mathlib.Core.Path.{◌≡◌, refl, sym, ap, ap₂, ◌∙◌}
 use mathlib.Core.Bool.{Bool, true, not}
 use mathlib.Core.List.{List, [], ◌∷◌, ◌++◌, append_assoc, append-nil}
@@ -10,16 +10,14 @@ use lib.ListN.{length, drop, take, length-append}
 use lib.Seq.{drop-drop, take_at, drop_at}
 use borrow.Rule.Slice.PartMut.{put_mid}
 use Rattle.meaning.specs.Formula.{Formula}
-use Rattle.meaning.specs.WellFormed.{well_formed, fits}
 use Rattle.rules.specs.Entry.{Kind, entry, entry_bytes, log_bytes}
 use Rattle.rules.specs.Step.{result_of, stepped, step_of}
 use Rattle.rules.specs.Run.{End, true_end, false_end, finished, out_of_room, ended, stopped, over, step, next, Ran, ran_nothing, logged, halt, onward, run_from}
-use Rattle.rules.proofs.Next.{Going, going}
+use Rattle.rules.proofs.Next.{going}
 use Rattle.table.proofs.ListLaws.{tail_written}
 use Rattle.search.specs.Searched.{SearchedTo}
 use Rattle.search.proofs.SearchedLaws.{searched-none}
 use Rattle.choice.specs.Chosen.{end_as, next_as}
-use Rattle.choice.specs.declared.Next.{Next}
 use Rattle.choice.specs.declared.Next.TheVariants as says
 use Rattle.choice.specs.declared.End as choice
 use Rattle.table.specs.Table.{counts_of}
