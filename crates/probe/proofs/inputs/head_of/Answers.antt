@@ -1,0 +1,7 @@
+-- The numbers at their places; that the table is the second is the code's own test.
+-- Assumes nothing.
+use mathlib.Core.Path.{refl}
+use Rattle.probe.proofs.inputs.head_of.Goals as goal
+
+pub returns-clause-second_value : goal.returns-clause-second_value
+returns-clause-second_value c = refl
