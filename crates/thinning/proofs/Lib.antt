@@ -1,3 +1,4 @@
+pub mod PlaceLaws
 pub mod FirmLaws
 pub mod ReadLaws
 pub mod GoingLaws

@@ -12,22 +12,31 @@ use native.Mathlib.Omega.{arith}
 use borrow.Author.Tests.{leb-true, leb-false}
 use Rattle.meaning.specs.Lists.{all_of, keep_if, same}
 use Rattle.meaning.specs.Formula.{Formula, var, opposite}
-use Rattle.meaning.specs.WellFormed.{well_formed}
+use Rattle.meaning.specs.WellFormed.{bound, well_formed, fits, max_variables}
 use Rattle.table.specs.Table.{Holds}
 use Rattle.table.specs.Ranks.{small}
 use Rattle.table.specs.declared.Counts.{Counts}
 use Rattle.meaning.proofs.Basics.{by_cases, eqb-eq, eqb-ne}
 use Rattle.meaning.proofs.Literals.{var-opp}
-use Rattle.meaning.proofs.Folds.{fold-turn}
+use Rattle.meaning.proofs.Lists.{all-le}
+use Rattle.meaning.proofs.Parts.{room_of, bound_all}
+use Rattle.meaning.proofs.Prefix.{bound-numbers}
 use Rattle.table.proofs.HoldLaws.{count-clauses, holds-bounds}
 use Rattle.table.proofs.DecodeLaws.{decode-holds}
 use Rattle.table.proofs.LoopLaws.{all_get_d}
-use Rattle.table.proofs.StayLaws.{small_all}
 use Rattle.thinning.specs.Going.{Readable, NextOf}
 
 -- The clauses of the source -------------------------------------------------------------------------------------------
 pub few : {φ : Formula} {t : List ℕ} {c : Counts} → Holds φ t c → length φ.clauses ≤ 2047
 few {φ} {t} {c} h = omega (arith, count-clauses h, (holds-bounds h).clauses)
+
+-- the clauses of a well formed formula that passes no limit
+small_all : (φ : Formula) → well_formed φ ≡ true → fits φ ≡ true → all_of (all_of small) φ.clauses ≡ true
+unfolding small
+small_all φ w f =
+    all-le (bound φ.prefix) (all_of small) φ.clauses
+    (λ c b. bound-numbers (λ v. leb v max_variables) φ.prefix c (room_of φ f).numbers b)
+    (bound_all φ w)
 
 module _ {source : List ℕ} {c : Counts} (r : Readable source c) where
   pub read_small : {φ : Formula} → Holds φ source c → all_of (all_of small) φ.clauses ≡ true
@@ -45,7 +54,10 @@ opposite-below l h r e = let v : opposite l / 2 ≡ l / 2 = unfold var in var-op
 
 -- One element more: x is that at index i, and y what is computed with it ------------------------------------------------
 pub fold_next : {A B : Type 0} (f : B → A → B) (d : A) (s : List A) (i : ℕ) (h : B) {b : B} → b ≡ foldl f h (drop i s) → i < length s → (x : A) → x ≡ get_or s i d → (y : B) → y ≡ f h x → b ≡ foldl f y (drop (i + 1) s)
-fold_next f d s i h inv k x is y e = rw (e, is) (fold-turn f d s i h inv k)
+fold_next f d s i h inv k x is y e = rw (e, is) (inv ∙ rw (add-one, drop-cons s i d))
+
+pub fold_last : {A B : Type 0} (f : B → A → B) (s : List A) (i : ℕ) (h : B) {b : B} → b ≡ foldl f h (drop i s) → length s ≤ i → h ≡ b
+fold_last f s i h inv k = sym (inv ∙ rw (drop_of_length-le s {i = i} k))
 
 -- What passes a test, from index i on -----------------------------------------------------------------------------------
 module _ (f : ℕ → Bool) (c : List ℕ) (i : ℕ) where

@@ -6,6 +6,7 @@ mod others;
 mod parts;
 mod picks;
 mod places;
+mod reduces;
 mod sides;
 
 pub use near::is_near;

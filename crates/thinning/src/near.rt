@@ -5,7 +5,8 @@ ghost use Rattle.table.specs.Ranks.{small};
 ghost use Rattle.thinning.specs.Thin.{near, far};
 ghost use Rattle.thinning.specs.Others.{near_with};
 
-use table::{contains, last_by};
+use crate::reduces::last_by;
+use table::contains;
 
 // A clause with more literals is far, wherever its existentials stand.
 pub const SHORT: usize = 16;

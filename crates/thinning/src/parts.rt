@@ -5,8 +5,9 @@ ghost use Rattle.table.specs.Ranks.{small, stays_by};
 ghost use Rattle.thinning.specs.Others.{safe};
 ghost use Rattle.thinning.specs.Going.{NextOf};
 
+use crate::reduces::stays_by;
 use flags::is_raised;
-use table::{flip, stays_by};
+use table::flip;
 
 // The next literal, from index `from` on, that stays; the clause's length where there is none.
 fn next_firm(ranks: &[u16], last: u16, clause: &[u16], from: usize) -> usize

@@ -5,7 +5,8 @@ ghost use Rattle.table.specs.Ranks.{small};
 ghost use Rattle.thinning.specs.Going.{Readable};
 
 use crate::near::SHORT;
-use table::{Counts, clause_at, contains, last_by};
+use crate::reduces::last_by;
+use table::{Counts, clause_at, contains};
 
 // So many short clauses may be far.
 const FAR: usize = 16;

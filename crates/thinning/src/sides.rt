@@ -12,8 +12,9 @@ use crate::others::{few_with, flag_met};
 use crate::parts::{is_free, same_firm};
 use crate::picks::flag_with;
 use crate::places::near_place;
+use crate::reduces::{all_stay_by, last_by};
 use flags::{next_raised, raise};
-use table::{Counts, all_stay_by, clause_at, contains, last_by};
+use table::{Counts, clause_at, contains};
 
 // So many clauses are looked at to find one that stands in for another.
 const LOOKS: usize = 256;
