@@ -1,5 +1,5 @@
 // What a call brings: its numbers, and the two tables and the bytes that it lends.
-ghost use Rattle.std.specs.Prelude.{◌≤◌, ◌≡◌, true, eqb, length, get_or, drop, IfOk};
+ghost use Rattle.std.specs.Prelude.{◌≤◌, ◌≡◌, true, eqb, length, get_or, drop, IfOk, OnErr};
 ghost use Rattle.shows.specs.Numbers.{number_at};
 ghost use Rattle.probe.specs.Taken.{Taken};
 
@@ -67,7 +67,8 @@ pub fn take_table(
     used: usize,
     more: usize,
 ) -> io::Result<bool>
-    ensures { IfOk result (λ taken. taken ≡ true → Taken t.new raw.new size used more) }
+    ensures taken { IfOk result (λ taken. taken ≡ true → Taken t.new raw.new size used more) }
+    ensures failed { OnErr result (t.new ≡ t.old) }
 {
     if t.len() < size {
         return Ok(false);
