@@ -9,7 +9,7 @@ use lib.ListN.{take}
 use Rattle.judging.specs.declared.Asked.TheVariants as said
 use Rattle.explaining.specs.declared.explains.ReasonAnswer.TheVariants as says
 use Rattle.meaning.specs.Formula.{Formula, mentions}
-use Rattle.reasons.specs.Reason.{Limit, of_variables, of_clauses, of_literals, Reason, verdict, next_entry, own_entry, too_far_right, not_lighter, between, too_heavy, over_limit, reason_of}
+use Rattle.reasons.specs.Reason.{of_variables, of_clauses, of_literals, Reason, verdict, next_entry, own_entry, too_far_right, not_lighter, between, too_heavy, over_limit, reason_of}
 use Rattle.table.specs.Table.{Holds}
 use Rattle.judging.specs.Check.{asked}
 use Rattle.table.specs.declared.Counts.{Counts}
