@@ -2,13 +2,12 @@
 -- coincide, and that the reason given is true and the only one.
 -- Assumes nothing.
 use mathlib.Core.Path.{◌≡◌, refl, sym, ap, ◌∙◌}
-use mathlib.Core.Bool.{Bool, true, false}
+use mathlib.Core.Bool.{true, false}
 use mathlib.Core.List.{List}
 use Prim.Native.Nat.{ℕ, ◌<◌, ◌≤◌}
 use borrow.Author.Tests.{le-leb, lt-leb}
 use Rattle.judging.specs.declared.Asked.TheVariants as said
 use Rattle.meaning.specs.Formula.{Formula, mentions}
-use Rattle.meaning.specs.WellFormed.{well_formed, fits}
 use Rattle.reasons.specs.Reason.{Reason, reason_of}
 use Rattle.reasons.specs.Statement.{Says}
 use Rattle.reasons.proofs.Reasons.{reason-true, reason-is}
@@ -16,7 +15,7 @@ use Rattle.judging.specs.Check.{asked}
 use Rattle.table.specs.declared.Counts.{Counts}
 use Rattle.apply.specs.Applied.{Lends}
 use Rattle.standing.specs.Standing.{formula_in, first_for, second_for}
-use Rattle.explaining.specs.Explaining.{reason_number, reason_answer, answer_there, answer_on, looks, refuses, heard_of, heard_for, heard_in, answer_for, first_after, second_after, Explains}
+use Rattle.explaining.specs.Explaining.{reason_number, reason_answer, answer_there, answer_on, looks, heard_of, heard_for, heard_in, answer_for, first_after, second_after, Explains}
 use Rattle.explaining.specs.declared.explains.Reasoned.{Reasoned}
 use Rattle.standing.proofs.LentLaws.{lends}
 
