@@ -5,8 +5,6 @@ use mathlib.Core.Path.{◌≡◌, refl}
 use mathlib.Core.List.{List, [], ◌∷◌}
 use lib.ListN.{get_or, set}
 use Rattle.table.specs.declared.Counts.{Counts}
-use Rattle.reader.specs.Reading.{Reads, read_number}
-use Rattle.reader.specs.declared.Reading.{Reading}
 use Rattle.writer.specs.Written.{Wrote, write_number}
 use Rattle.writer.specs.declared.Writing.{Writing}
 use Rattle.replaying.specs.Stepping.{Steps, step_number}
@@ -19,7 +17,7 @@ use Rattle.replaying.specs.declared.replays.Replayed.{Replayed}
 use Rattle.explaining.specs.declared.explains.Reasoned.{Reasoned}
 use Rattle.exports.specs.Records.{side_known, counts_in, record_of, side_number, as_lent}
 use Rattle.explaining.specs.Values.{reason_kind, reason_values, no_values, triple}
-use Rattle.exports.specs.Calls.{Said, Refused, RefusedWith, Write, WriteCall, Step, StepCall, Run, RunCall, Replay, ReplayCall, Reason, NoReason, ReasonCall}
+use Rattle.exports.specs.Calls.{Said, Refused, RefusedWith, WriteCall, StepCall, RunCall, ReplayCall, ReasonCall}
 use Rattle.exports.proofs.RecordLaws.{side-known, side-unknown}
 
 known : (l : List ℕ) (K U : Type 0) → get_or l 3 0 ≤ 1 → K → Said (side_known l) K U

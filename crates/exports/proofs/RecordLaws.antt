@@ -4,7 +4,7 @@ use Prim.Native.Nat.{ℕ, ◌≤◌, ◌<◌}
 use mathlib.Core.Path.{◌≡◌, refl, sym, ap, ◌∙◌}
 use mathlib.Core.Bool.{Bool, true, false, cond}
 use mathlib.Core.List.{List, [], ◌∷◌}
-use lib.Dec.{eqb, leb}
+use lib.Dec.{eqb}
 use lib.ListN.{get_or, length, take, drop}
 use mir.Val.{bool_byte}
 use borrow.Author.Tests.{le-leb, lt-leb, eq-eqb, ne_eqb}
@@ -19,7 +19,7 @@ use Rattle.judging.specs.declared.Asked.TheVariants.{Given, WrongLength, Malform
 use Rattle.table.proofs.HoldLaws.{literals-are}
 use Rattle.judging.proofs.LiteralLaws.{given_holds, given-part}
 use Rattle.exports.specs.Records.{side_known, counts_in, record_of, side_number, no_part, part_of, part_in}
-use Rattle.exports.specs.Calls.{Said, place_asked, literals_asked, number_asked, LiteralsCall}
+use Rattle.exports.specs.Calls.{place_asked, literals_asked, number_asked, LiteralsCall}
 
 -- The fourth number ---------------------------------------------------------------------------------------------
 pub side-known : (l : List ℕ) → get_or l 3 0 ≤ 1 → side_known l ≡ true
