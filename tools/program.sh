@@ -13,10 +13,15 @@ need_program() { # NAME
     fi
     [ -x "$(program_of "$1")" ] && return 0
     echo "$1: proving and building the program, once; this takes some minutes, and each crate is named when it is done" >&2
-    if ! (cd "$home/crates/$1" && rt run </dev/null >/dev/null) || ! [ -x "$(program_of "$1")" ]; then
+    if ! build_program "$1" >&2; then
         echo "$1: the program could not be proved and built" >&2
         return 1
     fi
+}
+
+# Proves and builds a program as its sources stand now, over what earlier runs kept.
+build_program() { # NAME
+    (cd "$home/crates/$1" && rt run </dev/null >/dev/null) && [ -x "$(program_of "$1")" ]
 }
 
 # Proves the crate exports and builds its archive, over what earlier runs kept.
