@@ -1,6 +1,6 @@
 -- What a step gives back, and what it leaves in the two tables (document 01, "Steps" and "Numbers given back").
 -- Assumes nothing.
-use Rattle.std.specs.Prelude.{◌≡◌, ℕ, Bool, true, not, cond, List, length}
+use Rattle.std.specs.Prelude.{◌≡◌, ℕ, Bool, true, not, cond, List, length, Result, Ok, Err}
 use Rattle.meaning.specs.Formula.{Formula}
 use Rattle.meaning.specs.WellFormed.{well_formed}
 use Rattle.rules.specs.Entry.{Call, bad, call, read_entry}
@@ -9,8 +9,8 @@ use Rattle.table.specs.Table.{table_length, table_of, counts_of, empty_formula, 
 use Rattle.steps.specs.Decide.{call_permitted}
 use Rattle.table.specs.Lent.{named}
 use Rattle.table.specs.declared.Counts.{Counts}
-use Rattle.apply.specs.declared.Stepping.{Stepping}
-use Rattle.apply.specs.declared.Stepping.TheVariants.{Stepped, BadEntry, NotPermitted, NoRoom}
+use Rattle.apply.specs.declared.Refusal as told
+use Rattle.apply.specs.declared.Refusal.TheVariants.{BadEntry, NotPermitted, NoRoom}
 
 -- A call by its parts ------------------------------------------------------------------------------------------
 -- what it makes of the formula
@@ -28,15 +28,15 @@ abbrev pub Known : Formula → ℕ → Bool → Type 0
 Known φ e known = known ≡ true → call_permitted φ (read_entry e) ≡ true
 
 -- What is given back ------------------------------------------------------------------------------------------
-unfoldable pub refused_as : Refusal → Stepping
+unfoldable pub refused_as : Refusal → told.Refusal
 refused_as entry_bad = BadEntry
 refused_as not_permitted = NotPermitted
 refused_as no_room = NoRoom
 
 -- the record of the result names the table on side s
-unfoldable pub stepping_as : StepAnswer → Bool → Stepping
-stepping_as (refused x) s = refused_as x
-stepping_as (stepped ψ) s = Stepped (counts_of ψ s)
+unfoldable pub stepping_as : StepAnswer → Bool → Result Counts told.Refusal
+stepping_as (refused x) s = Err (refused_as x)
+stepping_as (stepped ψ) s = Ok (counts_of ψ s)
 
 -- What is left ------------------------------------------------------------------------------------------------
 -- "A step's result stands in the other table; the one it came from is zeroed"; refused, "formula unchanged", the spare zero
@@ -49,20 +49,18 @@ target_after (refused x) = table_of empty_formula
 target_after (stepped ψ) = table_of ψ
 
 -- so from tables that hold anything, by the answer
-abbrev pub Settled : Stepping → List ℕ → List ℕ → List ℕ → List ℕ → Type 0
-Settled (Stepped d) source target source' target' = (source' ≡ table_of empty_formula) × (target' ≡ target)
-Settled BadEntry source target source' target' = (source' ≡ source) × (target' ≡ table_of empty_formula)
-Settled NotPermitted source target source' target' = (source' ≡ source) × (target' ≡ table_of empty_formula)
-Settled NoRoom source target source' target' = (source' ≡ source) × (target' ≡ table_of empty_formula)
+abbrev pub Settled : Result Counts told.Refusal → List ℕ → List ℕ → List ℕ → List ℕ → Type 0
+Settled (Ok d) source target source' target' = (source' ≡ table_of empty_formula) × (target' ≡ target)
+Settled (Err x) source target source' target' = (source' ≡ source) × (target' ≡ table_of empty_formula)
 
 -- the step by entry e, from φ to a table on side s
-pub record Applied (φ : Formula) (e : ℕ) (s : Bool) (r : Stepping) (a b : List ℕ) : Type 0 where
+pub record Applied (φ : Formula) (e : ℕ) (s : Bool) (r : Result Counts told.Refusal) (a b : List ℕ) : Type 0 where
   pub answer : r ≡ stepping_as (step_of φ e) s
   pub source : a ≡ source_after φ (step_of φ e)
   pub target : b ≡ target_after (step_of φ e)
 
 -- the same before either table is zeroed
-pub record Tried (φ : Formula) (e : ℕ) (s : Bool) (r : Stepping) (target : List ℕ) : Type 0 where
+pub record Tried (φ : Formula) (e : ℕ) (s : Bool) (r : Result Counts told.Refusal) (target : List ℕ) : Type 0 where
   pub answer : r ≡ stepping_as (step_of φ e) s
   pub table : (ψ : Formula) → step_of φ e ≡ stepped ψ → target ≡ table_of ψ
 
@@ -98,6 +96,6 @@ unfoldable pub side_after : Bool → StepAnswer → Bool
 side_after s (refused x) = s
 side_after s (stepped ψ) = not s
 
-pub record Moves (φ : Formula) (e : ℕ) (s : Bool) (r : Stepping) (a b : List ℕ) : Type 0 where
+pub record Moves (φ : Formula) (e : ℕ) (s : Bool) (r : Result Counts told.Refusal) (a b : List ℕ) : Type 0 where
   pub answer : r ≡ stepping_as (step_of φ e) (not s)
   pub stands : Stands (formula_after φ (step_of φ e)) (side_after s (step_of φ e)) a b

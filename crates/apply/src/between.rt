@@ -8,15 +8,15 @@ ghost use Rattle.permits.specs.Calls.{called};
 ghost use Rattle.steps.specs.Decide.{call_permitted};
 ghost use Rattle.rebuilds.specs.Given.{Given};
 
-use crate::Stepping;
-use crate::calls::{perform, refuse};
+use crate::Refusal;
+use crate::calls::perform;
 use permits::{Call, read_entry};
 use steps::is_permitted;
-use table::{Counts, Pushed, rank_prefix, zero};
+use table::{Counts, Ranks, rank_prefix, zero};
 
 // Whether the step is permitted. A caller who knows that it is spares the look through the clauses.
-fn may_go(source: &[u16], c: Counts, ranks: &[u16], call: Call, known: bool) -> bool
-    requires { Held source.now c × (length ranks.now ≡ 1024) × ((φ : Formula) → Given φ source.now c ranks.now → known ≡ true → call_permitted φ (called call) ≡ true) }
+fn may_go(source: &[u16], c: Counts, ranks: &Ranks, call: Call, known: bool) -> bool
+    requires { Held source.now c × ((φ : Formula) → Given φ source.now c ranks.now → known ≡ true → call_permitted φ (called call) ≡ true) }
     ensures { (φ : Formula) → Given φ source.now c ranks.now → result ≡ call_permitted φ (called call) }
 {
     if known {
@@ -26,46 +26,34 @@ fn may_go(source: &[u16], c: Counts, ranks: &[u16], call: Call, known: bool) -> 
 }
 
 // Does the step that the entry calls into a target that is all zero, where it is permitted.
-fn attempt(source: &[u16], c: Counts, target: &mut [u16], entry: u32, known: bool) -> Stepping
+fn attempt(
+    source: &[u16],
+    c: Counts,
+    target: &mut [u16],
+    entry: u32,
+    known: bool,
+) -> Result<Counts, Refusal>
     requires { Kept source.now c × (target.old ≡ table_of empty_formula) × ((φ : Formula) → Holds φ source.now c → well_formed φ ≡ true → Known φ entry known) }
     ensures { (φ : Formula) → Holds φ source.now c → well_formed φ ≡ true → Tried φ entry (not c.second) result target.new }
 {
-    let call = read_entry(entry);
-    let n = c.variables;
+    let call = read_entry(entry).ok_or(Refusal::BadEntry)?;
     let mut ranks = [0u16; 1024];
-    rank_prefix(&source[..n], &mut ranks);
-    if may_go(source, c, &ranks, call, known) {
-        let mut scratch = [0u16; 1023];
-        match perform(source, c, target, &mut scratch, &mut ranks, call) {
-            Pushed::Done(d) => {
-                return Stepping::Stepped(d);
-            }
-            Pushed::Full => {
-                return Stepping::NoRoom;
-            }
-        }
+    rank_prefix(&source[..c.variables], &mut ranks);
+    if !may_go(source, c, &ranks, call, known) {
+        return Err(Refusal::NotPermitted);
     }
-    refuse(call)
+    let mut scratch = [0u16; 1023];
+    perform(source, c, target, &mut scratch, &mut ranks, call).ok_or(Refusal::NoRoom)
 }
 
 // Zeroes what is no longer needed: the source after a step, the target after a refusal.
-fn settle(source: &mut [u16], target: &mut [u16], r: Stepping)
+fn settle(source: &mut [u16], target: &mut [u16], r: Result<Counts, Refusal>)
     requires { (length source.old ≡ 11261) × (length target.old ≡ 11261) }
     ensures { Settled r source.old target.old source.new target.new }
 {
     match r {
-        Stepping::Stepped(_) => {
-            zero(source);
-        }
-        Stepping::BadEntry => {
-            zero(target);
-        }
-        Stepping::NotPermitted => {
-            zero(target);
-        }
-        Stepping::NoRoom => {
-            zero(target);
-        }
+        Ok(_) => zero(source),
+        Err(_) => zero(target),
     }
 }
 
@@ -76,7 +64,7 @@ fn step_between(
     target: &mut [u16],
     entry: u32,
     known: bool,
-) -> Stepping
+) -> Result<Counts, Refusal>
     requires { Kept source.old c × (length target.old ≡ 11261) × ((φ : Formula) → Holds φ source.old c → well_formed φ ≡ true → Known φ entry known) }
     ensures { (φ : Formula) → Holds φ source.old c → well_formed φ ≡ true → Applied φ entry (not c.second) result source.new target.new }
 {
@@ -87,7 +75,13 @@ fn step_between(
 }
 
 // The same with two lent tables, from the one that the record names. A run knows that the step it chose is permitted; others do not.
-pub fn step(first: &mut [u16], second: &mut [u16], c: Counts, entry: u32, known: bool) -> Stepping
+pub fn step(
+    first: &mut [u16],
+    second: &mut [u16],
+    c: Counts,
+    entry: u32,
+    known: bool,
+) -> Result<Counts, Refusal>
     requires { Lent first.old second.old c × ((φ : Formula) → Lends φ first.old second.old c → Known φ entry known) }
     ensures { (φ : Formula) → Lends φ first.old second.old c → Moves φ entry c.second result first.new second.new }
 {

@@ -5,29 +5,27 @@ ghost use Rattle.table.specs.Answer.{Built};
 ghost use Rattle.permits.specs.Calls.{called};
 ghost use Rattle.rebuilds.specs.Given.{Given, Begun};
 ghost use Rattle.steps.specs.Decide.{call_permitted};
-ghost use Rattle.apply.specs.Applied.{call_result, refusal_of, refused_as};
+ghost use Rattle.apply.specs.Applied.{call_result};
 
-use crate::Stepping;
 use expanding::expand_into;
 use permits::Call;
 use resolving::resolve_into;
 use steps::{equality_into, pure_into, strengthen_into, subsume_into, unit_into};
-use table::{Counts, Pushed};
+use table::{Counts, Ranks, Scratch};
 
-// A permitted step, into a target that is all zero. A bad entry calls none.
+// A permitted step, into a target that is all zero; None for want of room.
 pub fn perform(
     source: &[u16],
     c: Counts,
     target: &mut [u16],
-    scratch: &mut [u16],
-    ranks: &mut [u16],
+    scratch: &mut Scratch,
+    ranks: &mut Ranks,
     call: Call,
-) -> Pushed
+) -> Option<Counts>
     requires { Begun source.now c target.old scratch.old ranks.old }
     ensures { (φ : Formula) → Given φ source.now c ranks.old → call_permitted φ (called call) ≡ true → Built (call_result φ (called call)) (not c.second) result target.new }
 {
     match call {
-        Call::Bad => Pushed::Full,
         Call::Unit(a) => unit_into(source, c, target, scratch, ranks, a),
         Call::Pure(a) => pure_into(source, c, target, scratch, ranks, a),
         Call::Subsume(a, b) => subsume_into(source, c, target, scratch, ranks, a, b),
@@ -35,21 +33,5 @@ pub fn perform(
         Call::Equality(a, b) => equality_into(source, c, target, scratch, ranks, a, b),
         Call::Resolve(a) => resolve_into(source, c, target, scratch, ranks, a),
         Call::Expand(a) => expand_into(source, c, target, scratch, ranks, a),
-    }
-}
-
-// The refusal of a call that is not permitted.
-pub fn refuse(call: Call) -> Stepping
-    ensures { result ≡ refused_as (refusal_of (called call)) }
-{
-    match call {
-        Call::Bad => Stepping::BadEntry,
-        Call::Unit(_) => Stepping::NotPermitted,
-        Call::Pure(_) => Stepping::NotPermitted,
-        Call::Subsume(_, _) => Stepping::NotPermitted,
-        Call::Strengthen(_, _) => Stepping::NotPermitted,
-        Call::Equality(_, _) => Stepping::NotPermitted,
-        Call::Resolve(_) => Stepping::NotPermitted,
-        Call::Expand(_) => Stepping::NotPermitted,
     }
 }

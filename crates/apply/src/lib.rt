@@ -1,17 +1,14 @@
 // A step, called by its log entry, from one lent table into the other.
 #![tactic(auto)]
 
-use table::Counts;
-
 mod between;
 mod calls;
 
 pub use between::step;
 
-// What comes of it: the record of the result, or why the step is refused.
+// Why a step is refused.
 #[derive(Clone, Copy)]
-pub enum Stepping {
-    Stepped(Counts),
+pub enum Refusal {
     BadEntry,
     NotPermitted,
     NoRoom,

@@ -16,8 +16,8 @@ use Rattle.rules.specs.Choice.{costly, light, wanted, allowed_call, blocked_call
 use Rattle.growth.specs.Weights.{weighed, weighed_step}
 use Rattle.growth.specs.declared.Weighed.TheVariants.{Over, Fitting, Wide}
 use Rattle.meaning.proofs.Basics.{by_cases, and_l, and_r, or-false}
-use Rattle.choice.specs.Chosen.{best_as, any_of_kind, best_of, limit_of, roomless, considered, consider_all, nothing_yet}
-use Rattle.choice.specs.declared.Best.TheVariants.{Nothing, Lightest}
+use Rattle.choice.specs.Chosen.{lack_of, best_as, any_of_kind, best_of, limit_of, roomless, considered, consider_all, nothing_yet}
+use Rattle.std.specs.Prelude.{Ok, Err}
 use Rattle.choice.specs.declared.Standing.{Standing}
 
 -- the lightest by a loop that replaces the best so far by what is lighter ---------------------------------------
@@ -79,8 +79,8 @@ module _ (E : ℕ) (φ : Formula) (k : Kind) where
 
   -- the standing for the best so far, and for whether one failed only for room
   unfoldable standing : Found → Bool → Standing
-  standing none room = record { best = Nothing room; below = limit_of E φ k }
-  standing (found c d) room = record { best = Lightest c; below = result_weight c }
+  standing none room = record { best = Err (lack_of room); below = limit_of E φ k }
+  standing (found c d) room = record { best = Ok c; below = result_weight c }
 
   -- what counts stays below the limit
   abbrev Within : Found → Type 0
@@ -100,14 +100,14 @@ module _ (E : ℕ) (φ : Formula) (k : Kind) where
     -- one variable more
     module _ (a : ℕ) (room : Bool) where
       first_one : (p x f : Bool) → considered (standing none room) a (cond p (cond x (cond f (Fitting (result_weight a)) Wide) Over) Over) ≡ standing (cond ((p && x) && f) (overtaken result_weight none a) none) (room || ((p && x) && not f))
-      unfolding considered standing overtaken roomless
+      unfolding considered standing overtaken roomless lack_of
       first_one true true true = refl
       first_one true true false = rw (or-true room)
       first_one true false f = rw (or-false room)
       first_one false x f = rw (or-false room)
 
       next_one : (c d : ℕ) (p x y f : Bool) → (y ≡ true → x ≡ true) → ltb (result_weight a) (result_weight c) ≡ y → considered (standing (found c d) room) a (cond p (cond y (cond f (Fitting (result_weight a)) Wide) Over) Over) ≡ standing (cond ((p && x) && f) (overtaken result_weight (found c d) a) (found c d)) (room || ((p && x) && not f))
-      unfolding considered standing overtaken roomless
+      unfolding considered standing overtaken roomless lack_of
       next_one c d true x true true h e = rw (h refl, e)
       next_one c d true x true false h e = rw (h refl)
       next_one c d true x false f h e = go (x && f)
@@ -147,7 +147,7 @@ module _ (E : ℕ) (φ : Formula) (k : Kind) where
     standing-best (found a b) room = refl
 
     best-is : (consider_all φ k (nothing_yet (limit_of E φ k)) (firsts φ k)).best ≡ best_of E φ k
-    unfolding best_of any_of_kind candidate standing counts result_weight merge
+    unfolding best_of any_of_kind candidate standing counts result_weight merge lack_of
     best-is =
         ap (λ (s : Standing). s.best) (all_more (firsts φ k) none false tt)
         ∙ standing-best (lightest_on counts result_weight none (firsts φ k)) (any_of (λ a. blocked_call E φ k a 0) (firsts φ k))

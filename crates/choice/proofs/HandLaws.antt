@@ -16,7 +16,8 @@ use Rattle.table.specs.declared.Counts.{Counts}
 use Rattle.table.proofs.HoldLaws.{prefix-is, held, bounds}
 use Rattle.table.proofs.DecodeLaws.{decode-holds}
 use Rattle.permits.proofs.PlaceLaws.{entries-of}
-use Rattle.index.specs.Study.{Studied, Study}
+use Rattle.index.specs.declared.at_hand.AtHand.{AtHand}
+use Rattle.index.specs.Study.{Studied}
 use Rattle.index.specs.Build.{HeldWell, tally_of, Tallies}
 use Rattle.search.specs.Searched.{SearchedTo}
 use Rattle.search.proofs.SearchedLaws.{searched-none}
@@ -24,27 +25,17 @@ use Rattle.growth.specs.Weights.{NoneSubsumed}
 use Rattle.choice.specs.Chosen as choice
 use Rattle.choice.specs.Chosen.{HeldSearched, Unsettled, Busy, Unsubsumed, Apart, Ranks}
 
-module _ {t : List ℕ} {c : Counts} {ranks index : List ℕ} where
-  module _ {m : ℕ} where
-    pub busy-study : Busy t c ranks index m → Study t c ranks index
-    busy-study b = record { formula = b.formula; studied = b.studied }
+pub studied-ranks : {φ : Formula} {t : List ℕ} {c : Counts} {ranks index : List ℕ} → Studied φ t c ranks index → NoneSubsumed φ → Ranks φ t c ranks
+studied-ranks s n = record { holds = s.holds; well = s.well; ranked = s.ranked; apart = n }
 
-    pub busy-unsubsumed : (b : Busy t c ranks index m) → NoneSubsumed b.formula → Unsubsumed t c ranks index m
-    busy-unsubsumed b n = record { formula = b.formula; studied = b.studied; apart = n; searched = b.searched }
+module _ {at : AtHand} where
+  pub busy-unsubsumed : {m : ℕ} → (b : Busy at m) → NoneSubsumed b.formula → Unsubsumed at m
+  busy-unsubsumed b n = record { formula = b.formula; studied = b.studied; apart = n; searched = b.searched }
 
-    pub unsubsumed-study : Unsubsumed t c ranks index m → Study t c ranks index
-    unsubsumed-study b = record { formula = b.formula; studied = b.studied }
+  pub unsubsumed-apart : {m : ℕ} → Unsubsumed at m → Apart at
+  unsubsumed-apart b = record { formula = b.formula; studied = b.studied; apart = b.apart }
 
-    pub unsubsumed-apart : Unsubsumed t c ranks index m → Apart t c ranks index
-    unsubsumed-apart b = record { formula = b.formula; studied = b.studied; apart = b.apart }
-
-  pub apart-study : Apart t c ranks index → Study t c ranks index
-  apart-study b = record { formula = b.formula; studied = b.studied }
-
-  pub studied-ranks : {φ : Formula} → Studied φ t c ranks index → NoneSubsumed φ → Ranks φ t c ranks
-  studied-ranks s n = record { holds = s.holds; well = s.well; ranked = s.ranked; apart = n }
-
-  pub apart-ranked : Apart t c ranks index → choice.Ranked t c ranks
+  pub apart-ranked : Apart at → choice.Ranked at.table.now at.counts at.ranks.now
   apart-ranked b = record { formula = b.formula; ranks-of = studied-ranks b.studied b.apart }
 
 -- At the start -------------------------------------------------------------------------------------------------

@@ -19,34 +19,36 @@ use Rattle.rules.proofs.Permitted.{allowed-wanted, wanted-permitted}
 use Rattle.rules.proofs.Choose.{find-found, fields-of}
 use Rattle.rules.proofs.Search.{found-lightest}
 use Rattle.search.specs.Candidates.{found_as}
-use Rattle.search.specs.declared.Found as search
-use Rattle.search.specs.declared.Found.TheVariants.{Nothing, Pair}
+use Rattle.std.specs.Prelude.{Option, Some, None, Result, Ok, Err}
 use Rattle.search.specs.Searched.{SearchedTo}
 use Rattle.meaning.proofs.Basics.{or-false}
-use Rattle.choice.specs.Chosen.{next_as, best_as, any_of_kind, best_of, kinds_after, stuck_as, next_from, SearchedAfter, ChosenAs}
+use Rattle.choice.specs.Chosen.{next_as, lack_of, best_as, any_of_kind, best_of, kinds_after, stuck_as, next_from, SearchedAfter, ChosenAs}
 use Rattle.choice.specs.declared.Chosen.{Chosen}
 use Rattle.choice.specs.declared.Next.{Next}
 use Rattle.choice.specs.declared.Next.TheVariants.{Step}
-use Rattle.choice.specs.declared.Best.{Best}
-use Rattle.choice.specs.declared.Best.TheVariants as best
+use Rattle.choice.specs.declared.Lack.{Lack}
 
 -- a candidate, as the code has it
-pair_is : (f : Found) (a b : ℕ) → Pair a b ≡ found_as f → f ≡ found a b
+pair_is : (f : Found) (a b : ℕ) → Some (a, b) ≡ found_as f → f ≡ found a b
 unfolding found_as
 pair_is none a b e = let z : ◌≡◌ {A = ℕ} 0 1 = cc in absurd (omega arith)
-pair_is (found c d) a b e = cc
+pair_is (found c d) a b e =
+    let p : ◌≡◌ {A = ℕ × ℕ} (a, b) (c, d) = cc in
+    let x = ap (λ (q : ℕ × ℕ). q.0) p in
+    let y = ap (λ (q : ℕ × ℕ). q.1) p in
+    cc
 
-nothing_is : (f : Found) → Nothing ≡ found_as f → f ≡ none
+nothing_is : (f : Found) → None ≡ found_as f → f ≡ none
 unfolding found_as
 nothing_is none e = refl
 nothing_is (found c d) e = let z : ◌≡◌ {A = ℕ} 0 1 = cc in absurd (omega arith)
 
-lightest-is : (f : Found) (room : Bool) (a : ℕ) → best.Lightest a ≡ best_as f room → (b : ℕ) × (f ≡ found a b)
+lightest-is : (f : Found) (room : Bool) (a : ℕ) → Ok a ≡ best_as f room → (b : ℕ) × (f ≡ found a b)
 unfolding best_as
 lightest-is none room a e = let z : ◌≡◌ {A = ℕ} 0 1 = cc in absurd (omega arith)
 lightest-is (found c d) room a e = (d, cc)
 
-none_is : (f : Found) (room too : Bool) → best.Nothing too ≡ best_as f room → (f ≡ none) × (too ≡ room)
+none_is : (f : Found) (room : Bool) (too : Lack) → Err too ≡ best_as f room → (f ≡ none) × (too ≡ lack_of room)
 unfolding best_as
 none_is none room too e = (refl, cc)
 none_is (found c d) room too e = let z : ◌≡◌ {A = ℕ} 0 1 = cc in absurd (omega arith)
@@ -72,35 +74,35 @@ module _ (E : ℕ) (φ : Formula) (k : Kind) where
     small a b e = let l = fields-of φ fit k a b (find-found E φ k a b e).listed-as in (l.a_small, l.b-small)
 
 -- Kinds 1 to 5 -------------------------------------------------------------------------------------------------
-module _ (E : ℕ) (φ : Formula) (k : Kind) (r : search.Found) (is : r ≡ found_as (candidate E φ k)) where
-  pub pair_small : fits φ ≡ true → (a b : ℕ) → r ≡ Pair a b → (a < 2048) × (b < 2048)
+module _ (E : ℕ) (φ : Formula) (k : Kind) (r : Option (ℕ × ℕ)) (is : r ≡ found_as (candidate E φ k)) where
+  pub pair_small : fits φ ≡ true → (a b : ℕ) → r ≡ Some (a, b) → (a < 2048) × (b < 2048)
   pair_small fit a b e = small E φ k fit a b (pair_is (candidate E φ k) a b (sym e ∙ is))
 
-  pub pair-permitted : (a b : ℕ) → r ≡ Pair a b → permitted φ k a b ≡ true
+  pub pair-permitted : (a b : ℕ) → r ≡ Some (a, b) → permitted φ k a b ≡ true
   pair-permitted a b e =
       wanted-permitted E φ k a b (allowed-wanted E φ k a b (find-found E φ k a b (pair_is (candidate E φ k) a b (sym e ∙ is))).counts)
 
-  pub pair-next : (a b : ℕ) → r ≡ Pair a b → (n : ℕ) → n ≡ entry k a b → (q : ℕ) → SearchedTo (result_of φ k a b) q
+  pub pair-next : (a b : ℕ) → r ≡ Some (a, b) → (n : ℕ) → n ≡ entry k a b → (q : ℕ) → SearchedTo (result_of φ k a b) q
       → ChosenAs φ (next_from E φ k) (record { next = Step n; searched = q })
   pair-next a b e = taken φ (next_from E φ k) k a b (found-next E φ k a b (pair_is (candidate E φ k) a b (sym e ∙ is)))
 
-  pub nothing-found : r ≡ Nothing → candidate E φ k ≡ none
+  pub nothing-found : r ≡ None → candidate E φ k ≡ none
   nothing-found e = nothing_is (candidate E φ k) (sym e ∙ is)
 
-  pub nothing-next : r ≡ Nothing → (x : Chosen) → ChosenAs φ (rules.next_of (choose_of E φ (kinds_after k))) x → ChosenAs φ (next_from E φ k) x
+  pub nothing-next : r ≡ None → (x : Chosen) → ChosenAs φ (rules.next_of (choose_of E φ (kinds_after k))) x → ChosenAs φ (next_from E φ k) x
   nothing-next e x h = rw (none-next E φ k (nothing-found e)) at h
 
 -- Kinds 6 and 7 ------------------------------------------------------------------------------------------------
-module _ (E : ℕ) (φ : Formula) (k : Kind) (r : Best) (is : r ≡ best_of E φ k) where
-  best-found : (a : ℕ) → r ≡ best.Lightest a → (b : ℕ) × (candidate E φ k ≡ found a b)
+module _ (E : ℕ) (φ : Formula) (k : Kind) (r : Result ℕ Lack) (is : r ≡ best_of E φ k) where
+  best-found : (a : ℕ) → r ≡ Ok a → (b : ℕ) × (candidate E φ k ≡ found a b)
   unfolding best_of
   best-found a e = lightest-is (candidate E φ k) (any_of_kind E φ k) a (sym e ∙ is)
 
-  pub best-small : fits φ ≡ true → (a : ℕ) → r ≡ best.Lightest a → a < 2048
+  pub best-small : fits φ ≡ true → (a : ℕ) → r ≡ Ok a → a < 2048
   best-small fit a e = let f = best-found a e in (small E φ k fit a f.0 f.1).0
 
   -- its b is 0
-  pub best-next : costly k ≡ true → (a : ℕ) → r ≡ best.Lightest a → (n : ℕ) → n ≡ entry k a 0 → (q : ℕ) → SearchedTo (result_of φ k a 0) q
+  pub best-next : costly k ≡ true → (a : ℕ) → r ≡ Ok a → (n : ℕ) → n ≡ entry k a 0 → (q : ℕ) → SearchedTo (result_of φ k a 0) q
       → ChosenAs φ (next_from E φ k) (record { next = Step n; searched = q })
   unfolding candidate
   best-next dear a e =
@@ -108,11 +110,11 @@ module _ (E : ℕ) (φ : Formula) (k : Kind) (r : Best) (is : r ≡ best_of E φ
       let z : f.0 ≡ 0 = (found-lightest _ _ _ a f.0 (rw dear at f.1)).no-b in
       taken φ (next_from E φ k) k a 0 (found-next E φ k a 0 (f.1 ∙ ap (found a) z))
 
-  pub best_none : (too : Bool) → r ≡ best.Nothing too → (candidate E φ k ≡ none) × (too ≡ any_of_kind E φ k)
+  pub best_none : (too : Lack) → r ≡ Err too → (candidate E φ k ≡ none) × (too ≡ lack_of (any_of_kind E φ k))
   unfolding best_of
   best_none too e = none_is (candidate E φ k) (any_of_kind E φ k) too (sym e ∙ is)
 
-  pub best-later : (too : Bool) → r ≡ best.Nothing too → (x : Chosen) → ChosenAs φ (rules.next_of (choose_of E φ (kinds_after k))) x
+  pub best-later : (too : Lack) → r ≡ Err too → (x : Chosen) → ChosenAs φ (rules.next_of (choose_of E φ (kinds_after k))) x
       → ChosenAs φ (next_from E φ k) x
   best-later too e x h = rw (none-next E φ k (best_none too e).0) at h
 
@@ -146,12 +148,11 @@ module _ (E : ℕ) (φ : Formula) where
   over-searched true = tt
   over-searched false = tt
 
-  pub stuck-next : (room too : Bool) → room ≡ any_of_kind E φ resolve → too ≡ any_of_kind E φ expand → (x : Next) → x ≡ stuck_as (room || too)
+  pub stuck-next : (x : Next) → x ≡ stuck_as (any_of_kind E φ resolve || any_of_kind E φ expand)
       → ChosenAs φ (rules.next_of (choose_of E φ (kinds_after expand))) (record { next = x; searched = 0 })
   unfolding stuck_as choose_of kinds_after
-  stuck-next room too d e x h =
-      let b : (room || too) ≡ any_blocked E φ = rw (d, e) blocked-is in
-      record { next = h ∙ ap (λ (y : Bool). next_as (rules.next_of (stuck y))) b; searched = over-searched (any_blocked E φ) }
+  stuck-next x h =
+      record { next = h ∙ ap (λ (y : Bool). next_as (rules.next_of (stuck y))) blocked-is; searched = over-searched (any_blocked E φ) }
 
 -- no clause, by their number
 no-clause : (cs : List (List ℕ)) → length cs ≡ 0 → no_clause cs ≡ true

@@ -16,7 +16,6 @@ use Rattle.table.specs.declared.Counts.{Counts}
 use Rattle.growth.specs.Weights.{weighed_step}
 use Rattle.growth.specs.declared.Weighed.{Weighed}
 use Rattle.table.proofs.HoldLaws.{held, count-variables, count-clauses, count-literals}
-use Rattle.table.proofs.RankLaws.{length-ranks}
 use Rattle.search.proofs.PrefixLaws.{entry_at}
 use Rattle.choice.specs.Chosen.{best_of, considered, consider_all, nothing_yet, Ranked}
 use Rattle.choice.specs.declared.Standing.{Standing}
@@ -64,6 +63,3 @@ module _ {φ : Formula} {t : List ℕ} {c : Counts} (h : Holds φ t c) (E : ℕ)
 module _ {t : List ℕ} {c : Counts} {ranks : List ℕ} (r : Ranked t c ranks) where
   pub ranked-held : Held t c
   ranked-held = held r.ranks-of.holds
-
-  pub ranked-length : length ranks ≡ 1024
-  ranked-length = ap length r.ranks-of.ranked ∙ length-ranks r.formula.prefix

@@ -1,6 +1,6 @@
 -- The code's answers for what the run does next, and for the best step of kind 6 or 7.
 -- Assumes nothing.
-use Rattle.std.specs.Prelude.{◌≡◌, ℕ, ◌+◌, Bool, true, false, List, [], ◌∷◌}
+use Rattle.std.specs.Prelude.{◌≡◌, ℕ, ◌+◌, Bool, Result, Ok, Err, true, false, List, [], ◌∷◌}
 use Rattle.meaning.specs.Lists.{any_of}
 use Rattle.meaning.specs.Formula.{Formula}
 use Rattle.meaning.specs.Game.{empty_clause}
@@ -13,7 +13,8 @@ use Rattle.rules.specs.Run.{true_end, false_end, finished, out_of_room, over, st
 use Rattle.table.specs.Table.{Holds}
 use Rattle.table.specs.Ranks.{ranks_of}
 use Rattle.table.specs.declared.Counts.{Counts}
-use Rattle.index.specs.Study.{Studied}
+use Rattle.index.specs.declared.at_hand.AtHand.{AtHand}
+use Rattle.index.specs.AtHand.{InHand}
 use Rattle.search.specs.Searched.{SearchedTo}
 use Rattle.growth.specs.Weights.{weighed_step, NoneSubsumed}
 use Rattle.growth.specs.declared.Weighed.{Weighed}
@@ -23,8 +24,8 @@ use Rattle.choice.specs.declared.End.TheVariants as end
 use Rattle.choice.specs.declared.Next.{Next}
 use Rattle.choice.specs.declared.Next.TheVariants as next
 use Rattle.choice.specs.declared.Chosen.{Chosen}
-use Rattle.choice.specs.declared.Best.{Best}
-use Rattle.choice.specs.declared.Best.TheVariants.{Nothing, Lightest}
+use Rattle.choice.specs.declared.Lack.{Lack}
+use Rattle.choice.specs.declared.Lack.TheVariants as lack
 use Rattle.choice.specs.declared.Standing.{Standing}
 
 unfoldable pub end_as : rules.End → End
@@ -38,15 +39,20 @@ next_as (over e) = next.Over (end_as e)
 next_as (step k a b) = next.Step (entry k a b)
 
 -- Kinds 6 and 7 ------------------------------------------------------------------------------------------------
-unfoldable pub best_as : Found → Bool → Best
-best_as none room = Nothing room
-best_as (found a b) room = Lightest a
+-- what lacks, by whether a step failed only for room
+unfoldable pub lack_of : Bool → Lack
+lack_of true = lack.Room
+lack_of false = lack.Steps
+
+unfoldable pub best_as : Found → Bool → Result ℕ Lack
+best_as none room = Err (lack_of room)
+best_as (found a b) room = Ok a
 
 -- some step of the kind failed only for room
 unfoldable pub any_of_kind : ℕ → Formula → Kind → Bool
 any_of_kind E φ k = any_of (λ a. blocked_call E φ k a 0) (firsts φ k)
 
-unfoldable pub best_of : ℕ → Formula → Kind → Best
+unfoldable pub best_of : ℕ → Formula → Kind → Result ℕ Lack
 best_of E φ k = best_as (candidate E φ k) (any_of_kind E φ k)
 
 -- "Kind 6 counts only where the weight falls, kind 7 only where it falls or rises by at most E": it stays below this
@@ -60,13 +66,13 @@ limit_of E φ resolve = weight φ
 limit_of E φ expand = weight φ + E + 1
 
 -- "take the least resulting weight, then the leftmost": from the left, a result is better if it is lighter
-unfoldable pub roomless : Best → Best
-roomless (Nothing room) = Nothing true
-roomless (Lightest a) = Lightest a
+unfoldable pub roomless : Result ℕ Lack → Result ℕ Lack
+roomless (Err l) = Err lack.Room
+roomless (Ok a) = Ok a
 
 unfoldable pub considered : Standing → ℕ → Weighed → Standing
 considered s a Over = s
-considered s a (Fitting w) = record { best = Lightest a; below = w }
+considered s a (Fitting w) = record { best = Ok a; below = w }
 considered s a Wide = record { best = roomless s.best; below = s.below }
 
 unfoldable pub consider_all : Formula → Kind → Standing → List ℕ → Standing
@@ -74,7 +80,7 @@ consider_all φ k s [] = s
 consider_all φ k s (a ∷ l) = consider_all φ k (considered s a (weighed_step s.below φ k a)) l
 
 abbrev pub nothing_yet : ℕ → Standing
-nothing_yet below = record { best = Nothing false; below = below }
+nothing_yet below = record { best = Err lack.Steps; below = below }
 
 -- All kinds ----------------------------------------------------------------------------------------------------
 -- "in the order 1 to 7"
@@ -121,16 +127,16 @@ pub record Unsettled (t : List ℕ) (c : Counts) (m : ℕ) : Type 0 where
   pub searched : SearchedTo formula m
 
 -- for kind 3 the same, with the index
-pub record Busy (t : List ℕ) (c : Counts) (ranks index : List ℕ) (m : ℕ) : Type 0 where
+pub record Busy (at : AtHand) (m : ℕ) : Type 0 where
   pub formula : Formula
-  pub studied : Studied formula t c ranks index
+  pub studied : InHand formula at
   pub no-empty : empty_clause formula.clauses ≡ false
   pub searched : SearchedTo formula m
 
 -- for kind 4: no clause is a part of another
-pub record Unsubsumed (t : List ℕ) (c : Counts) (ranks index : List ℕ) (m : ℕ) : Type 0 where
+pub record Unsubsumed (at : AtHand) (m : ℕ) : Type 0 where
   pub formula : Formula
-  pub studied : Studied formula t c ranks index
+  pub studied : InHand formula at
   pub apart : NoneSubsumed formula
   pub searched : SearchedTo formula m
 
@@ -138,9 +144,9 @@ pub record Unsubsumed (t : List ℕ) (c : Counts) (ranks index : List ℕ) (m : 
 abbrev pub AllSearched : Formula → Type 0
 AllSearched φ = (m : ℕ) → SearchedTo φ m
 
-pub record Apart (t : List ℕ) (c : Counts) (ranks index : List ℕ) : Type 0 where
+pub record Apart (at : AtHand) : Type 0 where
   pub formula : Formula
-  pub studied : Studied formula t c ranks index
+  pub studied : InHand formula at
   pub apart : NoneSubsumed formula
 
 -- for kind 7 the index is not needed

@@ -1,5 +1,5 @@
 // "Take the first kind in the order 1 to 7 with a candidate": one function a kind, which passes on to the next.
-ghost use Rattle.std.specs.Prelude.{◌≡◌, ℕ, ◌≤◌, ◌<◌, true, false, ◌||◌, length};
+ghost use Rattle.std.specs.Prelude.{◌≡◌, ℕ, ◌≤◌, ◌<◌, true, false, Bool, ◌||◌, length};
 ghost use Rattle.meaning.specs.Formula.{Formula};
 ghost use Rattle.meaning.specs.Game.{empty_clause};
 ghost use Rattle.meaning.specs.WellFormed.{well_formed};
@@ -7,115 +7,101 @@ ghost use Rattle.rules.specs.Step.{result_of};
 ghost use Rattle.rules.specs.Entry.{Kind, unit, pure, subsume, strengthen, equality, resolve, expand, code, entry};
 ghost use Rattle.rules.specs.Run as rules;
 ghost use Rattle.table.specs.Table.{table_of, empty_formula, Holds};
-ghost use Rattle.index.specs.Study.{Studied};
+ghost use Rattle.index.specs.AtHand.{InHand};
 ghost use Rattle.index.specs.Build.{TallyIn};
 ghost use Rattle.search.specs.Searched.{SearchedTo};
 ghost use Rattle.growth.specs.Weights.{NoneSubsumed};
-ghost use Rattle.choice.specs.Chosen.{next_as, any_of_kind, stuck_as, next_from, ChosenAs, AllSearched, HeldSearched, Unsettled, Busy, Unsubsumed, Apart, Ranks, Ranked};
+ghost use Rattle.choice.specs.Chosen.{next_as, any_of_kind, lack_of, stuck_as, next_from, ChosenAs, AllSearched, HeldSearched, Unsettled, Busy, Unsubsumed, Apart, Ranks, Ranked};
 
 use crate::lightest::{best_expand, best_resolve};
-use crate::searched::{less, lower, searched_without};
-use crate::{Best, Chosen, End, Next};
-use index::{build_index, clauses_of, put_tally};
+use crate::searched::searched_without;
+use crate::{Chosen, End, Lack, Next};
+use index::{AtHand, build_index, clauses_of, put_tally};
 use permits::entry_of;
-use search::{Found, find_equality, find_pure, find_strengthen, find_subsume, find_unit};
-use table::{Counts, is_present, rank_prefix, zero};
+use search::{find_equality, find_pure, find_strengthen, find_subsume, find_unit};
+use table::{Counts, Ranks, is_present, rank_prefix, zero};
 
 // No step counts: OUT OF ROOM exactly if one of kind 6 or one of kind 7 failed only for room.
-fn stuck(room: bool, too: bool) -> Next
-    ensures { result ≡ stuck_as (room || too) }
+fn stuck(resolving: Lack, expanding: Lack) -> Next
+    ensures { (room too : Bool) → resolving ≡ lack_of room → expanding ≡ lack_of too → result ≡ stuck_as (room || too) }
 {
-    if room {
-        return Next::Over(End::OutOfRoom);
+    match (resolving, expanding) {
+        (Lack::Steps, Lack::Steps) => Next::Over(End::Finished),
+        _ => Next::Over(End::OutOfRoom),
     }
-    if too {
-        return Next::Over(End::OutOfRoom);
-    }
-    Next::Over(End::Finished)
 }
 
-fn choose_expand(t: &[u16], c: Counts, ranks: &[u16], allowance: usize, room: bool) -> Chosen
+fn choose_expand(t: &[u16], c: Counts, ranks: &Ranks, allowance: usize, resolving: Lack) -> Chosen
     requires { Ranked t.now c ranks.now × (allowance ≤ 1000) }
-    ensures { (φ : Formula) → Ranks φ t.now c ranks.now → room ≡ any_of_kind allowance φ resolve → ChosenAs φ (next_from allowance φ expand) result }
+    ensures { (φ : Formula) → Ranks φ t.now c ranks.now → resolving ≡ lack_of (any_of_kind allowance φ resolve) → ChosenAs φ (next_from allowance φ expand) result }
 {
     match best_expand(t, c, ranks, allowance) {
-        Best::Lightest(a) => Chosen {
+        Ok(a) => Chosen {
             next: Next::Step(entry_of(7, a, 0)),
             searched: 0,
         },
-        Best::Nothing(too) => Chosen {
-            next: stuck(room, too),
+        Err(expanding) => Chosen {
+            next: stuck(resolving, expanding),
             searched: 0,
         },
     }
 }
 
 // No clause with a stays, and the resolvents are put behind the clauses that do.
-fn choose_resolve(t: &[u16], c: Counts, ranks: &[u16], index: &[u16], allowance: usize) -> Chosen
-    requires { Apart t.now c ranks.now index.now × (allowance ≤ 1000) }
-    ensures { (φ : Formula) → Studied φ t.now c ranks.now index.now → NoneSubsumed φ → AllSearched φ → ChosenAs φ (next_from allowance φ resolve) result }
+fn choose_resolve(at: &AtHand, allowance: usize) -> Chosen
+    requires { Apart at.now × (allowance ≤ 1000) }
+    ensures { (φ : Formula) → InHand φ at.now → NoneSubsumed φ → AllSearched φ → ChosenAs φ (next_from allowance φ resolve) result }
 {
-    match best_resolve(t, c, ranks, index) {
-        Best::Lightest(a) => Chosen {
+    match best_resolve(at) {
+        Ok(a) => Chosen {
             next: Next::Step(entry_of(6, a, 0)),
-            searched: less(c.clauses, clauses_of(index, a as u16).len()),
+            searched: at
+                .counts
+                .clauses
+                .saturating_sub(clauses_of(at.index, a as u16).len()),
         },
-        Best::Nothing(room) => choose_expand(t, c, ranks, allowance, room),
+        Err(resolving) => choose_expand(at.table, at.counts, at.ranks, allowance, resolving),
     }
 }
 
-fn choose_equality(t: &[u16], c: Counts, ranks: &[u16], index: &[u16], allowance: usize) -> Chosen
-    requires { Apart t.now c ranks.now index.now × (allowance ≤ 1000) }
-    ensures { (φ : Formula) → Studied φ t.now c ranks.now index.now → NoneSubsumed φ → AllSearched φ → ChosenAs φ (next_from allowance φ equality) result }
+fn choose_equality(at: &AtHand, allowance: usize) -> Chosen
+    requires { Apart at.now × (allowance ≤ 1000) }
+    ensures { (φ : Formula) → InHand φ at.now → NoneSubsumed φ → AllSearched φ → ChosenAs φ (next_from allowance φ equality) result }
 {
-    match find_equality(t, c, index) {
-        Found::Pair(a, b) => Chosen {
+    match find_equality(at.table, at.counts, at.index) {
+        Some((a, b)) => Chosen {
             next: Next::Step(entry_of(5, a, b)),
             searched: 0,
         },
-        Found::Nothing => choose_resolve(t, c, ranks, index, allowance),
+        None => choose_resolve(at, allowance),
     }
 }
 
 // The clauses before b stay as they were.
-fn choose_strengthen(
-    t: &[u16],
-    c: Counts,
-    ranks: &[u16],
-    index: &[u16],
-    allowance: usize,
-    searched: usize,
-) -> Chosen
-    requires { Unsubsumed t.now c ranks.now index.now searched × (allowance ≤ 1000) }
-    ensures { (φ : Formula) → Studied φ t.now c ranks.now index.now → NoneSubsumed φ → SearchedTo φ searched → ChosenAs φ (next_from allowance φ strengthen) result }
+fn choose_strengthen(at: &AtHand, allowance: usize, searched: usize) -> Chosen
+    requires { Unsubsumed at.now searched × (allowance ≤ 1000) }
+    ensures { (φ : Formula) → InHand φ at.now → NoneSubsumed φ → SearchedTo φ searched → ChosenAs φ (next_from allowance φ strengthen) result }
 {
-    match find_strengthen(t, c, ranks, index, searched) {
-        Found::Pair(a, b) => Chosen {
+    match find_strengthen(at, searched) {
+        Some((a, b)) => Chosen {
             next: Next::Step(entry_of(4, a, b)),
-            searched: lower(searched, b),
+            searched: searched.min(b),
         },
-        Found::Nothing => choose_equality(t, c, ranks, index, allowance),
+        None => choose_equality(at, allowance),
     }
 }
 
 // One clause goes: at most one of the first.
-fn choose_subsume(
-    t: &[u16],
-    c: Counts,
-    ranks: &[u16],
-    index: &[u16],
-    allowance: usize,
-    searched: usize,
-) -> Chosen
-    requires { Busy t.now c ranks.now index.now searched × (allowance ≤ 1000) }
-    ensures { (φ : Formula) → Studied φ t.now c ranks.now index.now → empty_clause φ.clauses ≡ false → SearchedTo φ searched → ChosenAs φ (next_from allowance φ subsume) result }
+fn choose_subsume(at: &AtHand, allowance: usize, searched: usize) -> Chosen
+    requires { Busy at.now searched × (allowance ≤ 1000) }
+    ensures { (φ : Formula) → InHand φ at.now → empty_clause φ.clauses ≡ false → SearchedTo φ searched → ChosenAs φ (next_from allowance φ subsume) result }
 {
-    match find_subsume(t, c, index, searched) {
-        Found::Pair(a, b) => Chosen {
+    match find_subsume(at.table, at.counts, at.index, searched) {
+        Some((a, b)) => Chosen {
             next: Next::Step(entry_of(3, a, b)),
-            searched: less(searched, 1),
+            searched: searched.saturating_sub(1),
         },
-        Found::Nothing => choose_strengthen(t, c, ranks, index, allowance, searched),
+        None => choose_strengthen(at, allowance, searched),
     }
 }
 
@@ -134,7 +120,13 @@ fn choose_indexed(
     let mut ranks = [0u16; 1024];
     rank_prefix(&t[..n], &mut ranks);
     build_index(t, c, spare);
-    choose_subsume(t, c, &ranks, spare, allowance, searched)
+    let at = AtHand {
+        table: t,
+        counts: c,
+        ranks: &ranks,
+        index: spare,
+    };
+    choose_subsume(&at, allowance, searched)
 }
 
 // Kind 2 needs no more than how often each literal stands in the clauses, so the index waits.
@@ -144,11 +136,11 @@ fn choose_pure(t: &[u16], c: Counts, spare: &mut [u16], allowance: usize, search
 {
     put_tally(t, c, spare);
     match find_pure(t, c, spare) {
-        Found::Pair(a, b) => Chosen {
+        Some((a, b)) => Chosen {
             next: Next::Step(entry_of(2, a, b)),
             searched: searched_without(t, c, spare, a, searched),
         },
-        Found::Nothing => choose_indexed(t, c, spare, allowance, searched),
+        None => choose_indexed(t, c, spare, allowance, searched),
     }
 }
 
@@ -157,11 +149,11 @@ fn choose_unit(t: &[u16], c: Counts, spare: &mut [u16], allowance: usize, search
     ensures { (φ : Formula) → Holds φ t.now c → well_formed φ ≡ true → empty_clause φ.clauses ≡ false → SearchedTo φ searched → ChosenAs φ (next_from allowance φ unit) result }
 {
     match find_unit(t, c) {
-        Found::Pair(a, b) => Chosen {
+        Some((a, b)) => Chosen {
             next: Next::Step(entry_of(1, a, b)),
             searched: 0,
         },
-        Found::Nothing => choose_pure(t, c, spare, allowance, searched),
+        None => choose_pure(t, c, spare, allowance, searched),
     }
 }
 

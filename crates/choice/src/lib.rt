@@ -31,16 +31,16 @@ pub struct Chosen {
     pub searched: usize,
 }
 
-// Of the steps of kind 6 or 7: none counts, and whether one failed only for room; or the variable of the lightest.
+// Why none of the steps of kind 6 or 7 is taken: none is light enough, or one that is failed only for room.
 #[derive(Clone, Copy)]
-pub enum Best {
-    Nothing(bool),
-    Lightest(usize),
+pub enum Lack {
+    Steps,
+    Room,
 }
 
-// The best so far, and the weight that a result must stay below to be better.
+// The variable of the lightest step so far, and the weight that a result must stay below to be better.
 #[derive(Clone, Copy)]
 pub struct Standing {
-    pub best: Best,
+    pub best: Result<usize, Lack>,
     pub below: usize,
 }

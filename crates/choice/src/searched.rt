@@ -1,5 +1,5 @@
 // How many of the first clauses of a result were searched before the step: those that it leaves as they were.
-ghost use Rattle.std.specs.Prelude.{◌≡◌, ◌-◌, ◌<◌, min, true};
+ghost use Rattle.std.specs.Prelude.{◌≡◌, ◌<◌, true};
 ghost use Rattle.meaning.specs.Formula.{Formula};
 ghost use Rattle.rules.specs.Entry.{pure};
 ghost use Rattle.rules.specs.Simplify.{pure_permitted};
@@ -10,25 +10,6 @@ ghost use Rattle.search.specs.Searched.{SearchedTo};
 
 use index::times_in;
 use table::{Counts, contains};
-
-// a less b, or nothing.
-pub fn less(a: usize, b: usize) -> usize
-    ensures { result ≡ a - b }
-{
-    if b <= a {
-        return a - b;
-    }
-    0
-}
-
-pub fn lower(a: usize, b: usize) -> usize
-    ensures { result ≡ min a b }
-{
-    if a < b {
-        return a;
-    }
-    b
-}
 
 // When the pure variable a goes: of an existential the clauses with it go, and the others stay. Of a universal its literal goes, and nothing
 // is known of what is left of its clauses.
@@ -47,5 +28,5 @@ pub fn searched_without(t: &[u16], c: Counts, tally: &[u16], a: usize, searched:
     if contains(&t[..n], literal + 1) {
         return 0;
     }
-    less(searched, gone)
+    searched.saturating_sub(gone)
 }

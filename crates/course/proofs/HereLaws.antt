@@ -14,7 +14,8 @@ use Rattle.table.specs.Lent.{named}
 use Rattle.table.specs.declared.Counts.{Counts}
 use Rattle.table.proofs.HoldLaws.{empty_holds, held, bounds}
 use Rattle.apply.specs.Applied.{Lends, Lent, Stands, Moves, formula_after, side_after}
-use Rattle.apply.specs.declared.Stepping.{Stepping}
+use Rattle.std.specs.Prelude.{Result}
+use Rattle.apply.specs.declared.Refusal as told
 use Rattle.apply.proofs.StartLaws.{lends-second, lends_first}
 use Rattle.course.specs.Course.{Here}
 
@@ -61,7 +62,7 @@ module _ {ψ : Formula} {s : Bool} {a b : List ℕ} {d : Counts} (h : Here ψ s 
   here-lent = record { formula = ψ; lends = here-lends }
 
   -- a step: the result stands on the other side
-  pub here-stepped : {e : ℕ} {r : Stepping} {a' b' : List ℕ} {χ : Formula} → step_of ψ e ≡ stepped χ
+  pub here-stepped : {e : ℕ} {r : Result Counts told.Refusal} {a' b' : List ℕ} {χ : Formula} → step_of ψ e ≡ stepped χ
       → Moves ψ e d.second r a' b' → Here χ (not s) a' b' (counts_of χ (not s))
   unfolding formula_after side_after
   here-stepped {e} {r} {a'} {b'} {χ} i m =
@@ -70,7 +71,7 @@ module _ {ψ : Formula} {s : Bool} {a b : List ℕ} {d : Counts} (h : Here ψ s 
       record { stands = rw here-side at g; counts = refl; well = k.well; room = k.room }
 
   -- a refusal: all is as before
-  pub here-refused : {e : ℕ} {r : Stepping} {a' b' : List ℕ} {x : Refusal} → step_of ψ e ≡ refused x
+  pub here-refused : {e : ℕ} {r : Result Counts told.Refusal} {a' b' : List ℕ} {x : Refusal} → step_of ψ e ≡ refused x
       → Moves ψ e d.second r a' b' → Here ψ s a' b' d
   unfolding formula_after side_after
   here-refused {e} {r} {a'} {b'} {x} i m =

@@ -10,17 +10,16 @@ use lib.ListN.{length, take, drop, length-drop, drop_of_length-le}
 use lib.Seq.{drop-drop}
 use Rattle.meaning.specs.Formula.{Formula}
 use Rattle.rules.specs.Entry.{byte_entry, LogRead, bad_length, entries, one_more, read_log}
-use Rattle.rules.specs.Step.{Refusal, entry_bad, not_permitted, no_room, StepAnswer, refused, stepped, step_of}
+use Rattle.rules.specs.Step.{Refusal, StepAnswer, refused, stepped, step_of}
 use Rattle.rules.specs.Run.{Stop, all_applied, refused_by, Replayed, replayed_none, one_applied, replay_on, replay, replay_read, replay_bytes}
 use Rattle.table.specs.Table.{counts_of}
 use Rattle.table.specs.declared.Counts.{Counts}
 use Rattle.table.proofs.ListLaws.{tail-mid}
 use Rattle.apply.specs.Applied.{Lends, Lent, Moves, refused_as, stepping_as}
-use Rattle.apply.specs.declared.Stepping.{Stepping}
-use Rattle.apply.specs.declared.Stepping.TheVariants.{Stepped, BadEntry, NotPermitted, NoRoom}
+use Rattle.std.specs.Prelude.{Some, None, Result, Ok, Err}
+use Rattle.apply.specs.declared.Refusal as told
+use Rattle.apply.specs.declared.Refusal.TheVariants.{BadEntry}
 use Rattle.course.specs.Course.{stop_as, side_from, Here, ReplayedAs}
-use Rattle.course.specs.declared.Stop.TheVariants as stop
-use Rattle.course.specs.declared.Stop.TheVariants.{Applied}
 use Rattle.course.proofs.HereLaws.{here-lends, here-lent, here-side, here-stepped, here-refused}
 
 -- Logs -------------------------------------------------------------------------------------------------------
@@ -80,29 +79,6 @@ front (a ∷ b ∷ c ∷ d ∷ bs) es e h k is = go (read_log bs) refl k
         let q : es ≡ byte_entry a b c d ∷ ds = cc in
         record { rest = ds; whole = q ∙ ap (λ (x : ℕ). x ∷ ds) (sym (is a b c d bs refl)); after = i }
 
--- What a step answers --------------------------------------------------------------------------------------------
-no_step : {A : Type 0} (x : Refusal) (d : Counts) → Stepped d ≡ refused_as x → A
-unfolding refused_as
-no_step entry_bad d q = absurd (let z : ◌≡◌ {A = ℕ} 0 1 = cc in omega arith)
-no_step not_permitted d q = absurd (let z : ◌≡◌ {A = ℕ} 0 1 = cc in omega arith)
-no_step no_room d q = absurd (let z : ◌≡◌ {A = ℕ} 0 1 = cc in omega arith)
-
--- the refusal that is told
-unfoldable told_by : Stepping → Refusal
-told_by (Stepped d) = entry_bad
-told_by BadEntry = entry_bad
-told_by NotPermitted = not_permitted
-told_by NoRoom = no_room
-
-told : (x : Refusal) → told_by (refused_as x) ≡ x
-unfolding told_by refused_as
-told entry_bad = refl
-told not_permitted = refl
-told no_room = refl
-
-refusal-one : (y x : Refusal) → refused_as y ≡ refused_as x → y ≡ x
-refusal-one y x q = sym (told y) ∙ ap told_by q ∙ told x
-
 -- The replay so far --------------------------------------------------------------------------------------------
 -- n entries more were applied
 unfoldable pub applied_more : ℕ → Replayed → Replayed
@@ -141,8 +117,8 @@ module _ {φ : Formula} {s : Bool} {a b : List ℕ} {d : Counts} (h : Here φ s 
       record { formula = φ; left = k.list; here = h; reads = k.is; whole = rw k.is (none_more (replay φ k.list)) }
 
   -- a length that is no multiple of 4
-  pub along-bad : (length log % 4 ≡ 0 → ⊥) → ReplayedAs (replay_bytes φ log) s (record { stop = stop.BadEntry; counts = d; applied = 0 }) a b
-  unfolding side_from stop_as replay_bytes replay_read replayed_none
+  pub along-bad : (length log % 4 ≡ 0 → ⊥) → ReplayedAs (replay_bytes φ log) s (record { stop = Some BadEntry; counts = d; applied = 0 }) a b
+  unfolding side_from stop_as refused_as replay_bytes replay_read replayed_none
   along-bad e = rw (odd-bytes log e) (record { stop = refl; applied = refl; here = h })
 
 module _ {φ : Formula} {log : List ℕ} {s : Bool} {n : ℕ} {a b : List ℕ} {d : Counts} (k : Along φ log s n a b d) where
@@ -157,17 +133,17 @@ module _ {φ : Formula} {log : List ℕ} {s : Bool} {n : ℕ} {a b : List ℕ} {
       rw (k.whole ∙ ap (applied_more n) e ∙ more-none n x k.formula) (record { stop = refl; applied = refl; here = h })
 
   -- nothing is left
-  pub along-end : length log % 4 ≡ 0 → length log / 4 ≤ n → ReplayedAs (replay_bytes φ log) s (record { stop = Applied; counts = d; applied = n }) a b
+  pub along-end : length log % 4 ≡ 0 → n ≡ length log / 4 → ReplayedAs (replay_bytes φ log) s (record { stop = None; counts = d; applied = length log / 4 }) a b
   unfolding stop_as read_log replay
   along-end e f =
       let q : read_log [] ≡ entries k.left = rw (drop_of_length-le log {i = 4 * n} (omega arith)) at k.reads in
       let z : k.left ≡ [] = cc in
-      over all_applied (ap (replay k.formula) z) k.here
+      rw f at (over all_applied (ap (replay k.formula) z) k.here)
 
   -- the next entry
   module _ (more : n < length log / 4)
       {e : ℕ} (is : FirstEntry (take (length log - 4 * n) (drop (4 * n) log)) e)
-      {r : Stepping} {a' b' : List ℕ} (m : (χ : Formula) → Lends χ a b d → Moves χ e d.second r a' b') where
+      {r : Result Counts told.Refusal} {a' b' : List ℕ} (m : (χ : Formula) → Lends χ a b d → Moves χ e d.second r a' b') where
     at_front : Front (drop (4 * n) log) k.left e
     at_front = front (drop (4 * n) log) k.left e (omega (arith, length-drop (4 * n) log)) k.reads (rw (tail-mid log (4 * n)) at is)
 
@@ -185,14 +161,14 @@ module _ {φ : Formula} {log : List ℕ} {s : Bool} {n : ℕ} {a b : List ℕ} {
     unfolding replay
     first-replayed x i = ap (replay k.formula) at_front.whole ∙ ap (replay_on (λ ψ. replay ψ at_front.rest) k.formula) i
 
-    pub along-stepped : (d' : Counts) → r ≡ Stepped d' → Along φ log s (n + 1) a' b' d'
+    pub along-stepped : (d' : Counts) → r ≡ Ok d' → Along φ log s (n + 1) a' b' d'
     unfolding stepping_as replay_on
     along-stepped d' q = go (step_of k.formula e) refl
       where
         go : (x : StepAnswer) → step_of k.formula e ≡ x → Along φ log s (n + 1) a' b' d'
-        go (refused x) i = no_step x d' (sym q ∙ answered (refused x) i)
+        go (refused x) i = let j : Ok d' ≡ Err (refused_as x) = sym q ∙ answered (refused x) i in let z : ◌≡◌ {A = ℕ} 0 1 = cc in absurd (omega arith)
         go (stepped χ) i =
-            let j : Stepped d' ≡ Stepped (counts_of χ (not (side_from s n))) = sym q ∙ answered (stepped χ) i in
+            let j : Ok d' ≡ Ok (counts_of χ (not (side_from s n))) = sym q ∙ answered (stepped χ) i in
             let same : d' ≡ counts_of χ (not (side_from s n)) = cc in
             record {
               formula = χ;
@@ -202,15 +178,20 @@ module _ {φ : Formula} {log : List ℕ} {s : Bool} {n : ℕ} {a b : List ℕ} {
               whole = k.whole ∙ ap (applied_more n) (first-replayed (stepped χ) i) ∙ one-more n (replay χ at_front.rest);
             }
 
-    pub along-refused : (x : Refusal) → r ≡ refused_as x
-        → ReplayedAs (replay_bytes φ log) s (record { stop = stop_as (refused_by x); counts = d; applied = n }) a' b'
-    unfolding stepping_as replay_on
+    stops : (y : Refusal) → step_of k.formula e ≡ refused y
+        → ReplayedAs (replay_bytes φ log) s (record { stop = Some (refused_as y); counts = d; applied = n }) a' b'
+    unfolding stop_as replay_on
+    stops y i = over (refused_by y) (first-replayed (refused y) i) (here-refused k.here i moved)
+
+    pub along-refused : (x : told.Refusal) → r ≡ Err x
+        → ReplayedAs (replay_bytes φ log) s (record { stop = Some x; counts = d; applied = n }) a' b'
+    unfolding stepping_as
     along-refused x q = go (step_of k.formula e) refl
       where
         go : (y : StepAnswer) → step_of k.formula e ≡ y
-            → ReplayedAs (replay_bytes φ log) s (record { stop = stop_as (refused_by x); counts = d; applied = n }) a' b'
+            → ReplayedAs (replay_bytes φ log) s (record { stop = Some x; counts = d; applied = n }) a' b'
         go (refused y) i =
-            let same : y ≡ x = refusal-one y x (sym (answered (refused y) i) ∙ q) in
-            let j : step_of k.formula e ≡ refused x = i ∙ ap refused same in
-            over (refused_by x) (first-replayed (refused x) j) (here-refused k.here j moved)
-        go (stepped χ) i = no_step x _ (sym (answered (stepped χ) i) ∙ q)
+            let j : Err x ≡ Err (refused_as y) = sym q ∙ answered (refused y) i in
+            let same : x ≡ refused_as y = cc in
+            rw same (stops y i)
+        go (stepped χ) i = let j : Err x ≡ Ok (counts_of χ (not (side_from s n))) = sym q ∙ answered (stepped χ) i in let z : ◌≡◌ {A = ℕ} 0 1 = cc in absurd (omega arith)

@@ -25,10 +25,9 @@ use Rattle.table.specs.declared.Counts.{Counts}
 use Rattle.apply.specs.Applied.{Known, Lends, Stands}
 use Rattle.apply.proofs.StepLaws.{stepped-permitted}
 use Rattle.table.proofs.DecodeLaws.{decode-holds}
-use Rattle.course.specs.Course.{outcome_as, ended_as, side_from, Here, RanAs}
+use Rattle.course.specs.Course.{outcome_as, side_from, Here, RanAs}
 use Rattle.course.proofs.HereLaws.{here-side, here-lends}
-use Rattle.course.specs.declared.Outcome.{Outcome}
-use Rattle.course.specs.declared.Outcome.TheVariants.{Stopped}
+use Rattle.std.specs.Prelude.{Some, None}
 use Rattle.course.specs.declared.Running.{Running}
 
 -- the entries done, then a run
@@ -103,13 +102,6 @@ run_step : (E m : ℕ) (ψ : Formula) (k : Kind) (a b : ℕ) → next E ψ ≡ s
 unfolding run_from onward
 run_step E m ψ k a b h = rw h
 
-end-outcome : (o : End) → ended_as (end_as o) ≡ outcome_as (ended o)
-unfolding ended_as end_as outcome_as
-end-outcome true_end = refl
-end-outcome false_end = refl
-end-outcome finished = refl
-end-outcome out_of_room = refl
-
 module _ (φ : Formula) (E room : ℕ) (s : Bool) (log₀ : List ℕ) where
   -- before the first
   pub turns-start : {a b : List ℕ} {d : Counts} → Here φ s a b d → Turns φ E room s log₀ a b log₀ d 0 0
@@ -152,19 +144,20 @@ module _ (φ : Formula) (E room : ℕ) (s : Bool) (log₀ : List ℕ) where
         rw (x, i) y
 
     -- the run is over
-    pub turns-over : (e : choice.End) → says.Over e ≡ next_as (next E t.formula) → (q : Outcome) → q ≡ ended_as e → {a' b' : List ℕ} → Stands t.formula (side_from s n) a' b' → RanAs (run_from E room φ) s log₀ (record { outcome = q; counts = d; steps = n }) a' b' log
-    turns-over e h q i k =
+    pub turns-over : (e : choice.End) → says.Over e ≡ next_as (next E t.formula) → {a' b' : List ℕ} → Stands t.formula (side_from s n) a' b' → RanAs (run_from E room φ) s log₀ (record { outcome = Some e; counts = d; steps = n }) a' b' log
+    unfolding outcome_as
+    turns-over e h k =
         let o = over-is (next E t.formula) e h in
-        ends (ended o.0) (run-over E (room - n) t.formula o.0 o.1.0) (record { outcome = q; counts = d; steps = n })
-        (ap (λ (x : Outcome). record { outcome = x; counts = d; steps = n }) (i ∙ ap ended_as o.1.1 ∙ end-outcome o.0)) k
+        ends (ended o.0) (run-over E (room - n) t.formula o.0 o.1.0) (record { outcome = Some e; counts = d; steps = n })
+        (ap (λ (x : choice.End). record { outcome = Some x; counts = d; steps = n }) o.1.1) k
 
     -- no step is left
-    pub turns_stopped : (e : ℕ) → says.Step e ≡ next_as (next E t.formula) → n ≡ room → {a' b' : List ℕ} → Stands t.formula (side_from s n) a' b' → RanAs (run_from E room φ) s log₀ (record { outcome = Stopped; counts = d; steps = n }) a' b' log
+    pub turns_stopped : (e : ℕ) → says.Step e ≡ next_as (next E t.formula) → n ≡ room → {a' b' : List ℕ} → Stands t.formula (side_from s n) a' b' → RanAs (run_from E room φ) s log₀ (record { outcome = None; counts = d; steps = n }) a' b' log
     unfolding outcome_as
     turns_stopped e h l k =
         let p = step_is (next E t.formula) e h in
         let z : room - n ≡ 0 = omega arith in
-        ends stopped (ap (λ (i : ℕ). run_from E i t.formula) z ∙ run-stopped E t.formula p.kind p.a p.b p.is) (record { outcome = Stopped; counts = d; steps = n }) refl k
+        ends stopped (ap (λ (i : ℕ). run_from E i t.formula) z ∙ run-stopped E t.formula p.kind p.a p.b p.is) (record { outcome = None; counts = d; steps = n }) refl k
 
     -- one step more
     pub turns_next : (e : ℕ) → says.Step e ≡ next_as (next E t.formula) → n < room → {a' b' log' : List ℕ} {d' : Counts} {m' : ℕ}

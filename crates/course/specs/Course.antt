@@ -1,43 +1,29 @@
 -- What a run and a replay give back, and what they leave in the two tables and the log (document 01, "The run", "Numbers given back").
 -- Assumes nothing.
-use Rattle.std.specs.Prelude.{◌≡◌, ℕ, zero, suc, ◌*◌, Bool, true, not, List, ◌++◌, length, drop}
+use Rattle.std.specs.Prelude.{◌≡◌, ℕ, zero, suc, ◌*◌, Bool, true, not, List, ◌++◌, length, drop, Option, Some, None}
 use Rattle.meaning.specs.Formula.{Formula}
 use Rattle.meaning.specs.WellFormed.{well_formed, fits}
 use Rattle.rules.specs.Entry.{log_bytes}
-use Rattle.rules.specs.Step.{entry_bad, not_permitted, no_room}
 use Rattle.rules.specs.Run as rules
-use Rattle.rules.specs.Run.{true_end, false_end, finished, out_of_room, ended, stopped, Ran, Replayed, all_applied, refused_by}
+use Rattle.rules.specs.Run.{ended, stopped, Ran, Replayed, all_applied, refused_by}
 use Rattle.table.specs.Table.{counts_of}
 use Rattle.table.specs.declared.Counts.{Counts}
-use Rattle.apply.specs.Applied.{Stands}
+use Rattle.apply.specs.Applied.{refused_as, Stands}
+use Rattle.apply.specs.declared.Refusal.{Refusal}
+use Rattle.choice.specs.Chosen.{end_as}
 use Rattle.choice.specs.declared.End.{End}
-use Rattle.choice.specs.declared.End.TheVariants as end
-use Rattle.course.specs.declared.Outcome.{Outcome}
-use Rattle.course.specs.declared.Outcome.TheVariants.{True, False, Finished, OutOfRoom, Stopped}
 use Rattle.course.specs.declared.Running.{Running}
-use Rattle.course.specs.declared.Stop.{Stop}
-use Rattle.course.specs.declared.Stop.TheVariants.{Applied, BadEntry, NotPermitted, NoRoom}
 use Rattle.course.specs.declared.Replaying.{Replaying}
 
-unfoldable pub outcome_as : rules.Outcome → Outcome
-outcome_as (ended true_end) = True
-outcome_as (ended false_end) = False
-outcome_as (ended finished) = Finished
-outcome_as (ended out_of_room) = OutOfRoom
-outcome_as stopped = Stopped
+-- how a run ends by itself; none where it is stopped
+unfoldable pub outcome_as : rules.Outcome → Option End
+outcome_as (ended e) = Some (end_as e)
+outcome_as stopped = None
 
--- the same, from the code's answer for a run that ends by itself
-unfoldable pub ended_as : End → Outcome
-ended_as end.True = True
-ended_as end.False = False
-ended_as end.Finished = Finished
-ended_as end.OutOfRoom = OutOfRoom
-
-unfoldable pub stop_as : rules.Stop → Stop
-stop_as all_applied = Applied
-stop_as (refused_by entry_bad) = BadEntry
-stop_as (refused_by not_permitted) = NotPermitted
-stop_as (refused_by no_room) = NoRoom
+-- the refusal at which a replay stops; none where all entries are applied
+unfoldable pub stop_as : rules.Stop → Option Refusal
+stop_as all_applied = None
+stop_as (refused_by x) = Some (refused_as x)
 
 -- "A step's result stands in the other table": the side after n steps from side s
 unfoldable pub side_from : Bool → ℕ → Bool

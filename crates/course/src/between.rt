@@ -9,7 +9,7 @@ ghost use Rattle.search.specs.Searched.{SearchedTo};
 ghost use Rattle.choice.specs.Chosen.{next_as};
 ghost use Rattle.apply.specs.Applied.{Known, Lends, Lent, Stands};
 
-use apply::{Stepping, step};
+use apply::step;
 use choice::{Chosen, choose};
 use table::{Counts, zero};
 
@@ -47,10 +47,5 @@ pub fn advance(first: &mut [u16], second: &mut [u16], c: Counts, entry: u32) -> 
     requires { Lent first.old second.old c × ((φ : Formula) → Lends φ first.old second.old c → Known φ entry true) }
     ensures { (φ ψ : Formula) → Lends φ first.old second.old c → step_of φ entry ≡ stepped ψ → (result ≡ counts_of ψ (not c.second)) × Stands ψ (not c.second) first.new second.new }
 {
-    match step(first, second, c, entry, true) {
-        Stepping::Stepped(d) => d,
-        Stepping::BadEntry => c,
-        Stepping::NotPermitted => c,
-        Stepping::NoRoom => c,
-    }
+    step(first, second, c, entry, true).unwrap_or(c)
 }

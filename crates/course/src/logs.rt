@@ -7,10 +7,7 @@ pub fn put_entry(tail: &mut [u8], entry: u32)
     requires { 4 ≤ length tail.old }
     ensures { tail.new ≡ entry_bytes entry ++ drop 4 tail.old }
 {
-    tail[0] = (entry / 16777216 % 256) as u8;
-    tail[1] = (entry / 65536 % 256) as u8;
-    tail[2] = (entry / 256 % 256) as u8;
-    tail[3] = (entry % 256) as u8;
+    tail[..4].copy_from_slice(&entry.to_be_bytes());
 }
 
 // The entry at the front of a log.
@@ -18,5 +15,5 @@ pub fn first_entry(log: &[u8]) -> u32
     requires { 4 ≤ length log.now }
     ensures { (a b c d : ℕ) (rest : List ℕ) → log.now ≡ (a ∷ b ∷ c ∷ d ∷ rest) → result ≡ byte_entry a b c d }
 {
-    log[0] as u32 * 16777216 + (log[1] as u32 * 65536 + (log[2] as u32 * 256 + log[3] as u32))
+    u32::from_be_bytes([log[0], log[1], log[2], log[3]])
 }

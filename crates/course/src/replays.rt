@@ -5,22 +5,11 @@ ghost use Rattle.rules.specs.Run.{replay_bytes};
 ghost use Rattle.apply.specs.Applied.{Lends, Lent};
 ghost use Rattle.course.specs.Course.{ReplayedAs};
 
+use crate::Replaying;
 use crate::between::clear_spare;
 use crate::logs::first_entry;
-use crate::{Replaying, Stop};
-use apply::{Stepping, step};
+use apply::{Refusal, step};
 use table::Counts;
-
-// What is given back.
-fn ended(stop: Stop, counts: Counts, applied: usize) -> Replaying
-    ensures { result ≡ record { stop = stop; counts = counts; applied = applied } }
-{
-    Replaying {
-        stop: stop,
-        counts: counts,
-        applied: applied,
-    }
-}
 
 // A log whose length is no multiple of 4 is refused before any step.
 pub fn replay(first: &mut [u16], second: &mut [u16], c: Counts, log: &[u8]) -> Replaying
@@ -29,28 +18,31 @@ pub fn replay(first: &mut [u16], second: &mut [u16], c: Counts, log: &[u8]) -> R
 {
     clear_spare(first, second, c);
     if log.len() % 4 != 0 {
-        return ended(Stop::BadEntry, c, 0);
+        return Replaying {
+            stop: Some(Refusal::BadEntry),
+            counts: c,
+            applied: 0,
+        };
     }
     let mut d = c;
-    let mut n: usize = 0;
-    while n < log.len() / 4 {
-        let at = 4 * n;
-        let entry = first_entry(&log[at..]);
+    for n in 0..log.len() / 4 {
+        let entry = first_entry(&log[4 * n..]);
         match step(first, second, d, entry, false) {
-            Stepping::Stepped(e) => {
+            Ok(e) => {
                 d = e;
             }
-            Stepping::BadEntry => {
-                return ended(Stop::BadEntry, d, n);
-            }
-            Stepping::NotPermitted => {
-                return ended(Stop::NotPermitted, d, n);
-            }
-            Stepping::NoRoom => {
-                return ended(Stop::NoRoom, d, n);
+            Err(refusal) => {
+                return Replaying {
+                    stop: Some(refusal),
+                    counts: d,
+                    applied: n,
+                };
             }
         }
-        n += 1;
     }
-    ended(Stop::Applied, d, n)
+    Replaying {
+        stop: None,
+        counts: d,
+        applied: log.len() / 4,
+    }
 }

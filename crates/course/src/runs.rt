@@ -1,36 +1,15 @@
 // The run: at each point the choice, then the step and its entry in the log, until the run is over or stopped.
-ghost use Rattle.std.specs.Prelude.{◌≡◌, ◌/◌, ◌≤◌, min, length};
+ghost use Rattle.std.specs.Prelude.{◌≡◌, ◌≤◌, length};
 ghost use Rattle.meaning.specs.Formula.{Formula};
 ghost use Rattle.rules.specs.Run as rules;
 ghost use Rattle.apply.specs.Applied.{Lends, Lent};
-ghost use Rattle.course.specs.Course.{RanAs, ended_as};
+ghost use Rattle.course.specs.Course.{RanAs};
 
+use crate::Running;
 use crate::between::{advance, choose_between, clear_spare};
 use crate::logs::put_entry;
-use crate::{Outcome, Running};
-use choice::{End, Next};
+use choice::Next;
 use table::Counts;
-
-// The outcome of a run that ends by itself.
-fn outcome_of(end: End) -> Outcome
-    ensures { result ≡ ended_as end }
-{
-    match end {
-        End::True => Outcome::True,
-        End::False => Outcome::False,
-        End::Finished => Outcome::Finished,
-        End::OutOfRoom => Outcome::OutOfRoom,
-    }
-}
-
-fn smaller(a: usize, b: usize) -> usize
-    ensures { result ≡ min a b }
-{
-    if a <= b {
-        return a;
-    }
-    b
-}
 
 // The run from the formula that the record names, with this allowance, at most so many steps, and a log.
 pub fn run(
@@ -44,18 +23,19 @@ pub fn run(
     requires { Lent first.old second.old c × (allowance ≤ 1000) }
     ensures { (φ : Formula) → Lends φ first.old second.old c → RanAs (rules.run allowance limit (length log.old) φ) c.second log.old result first.new second.new log.new }
 {
-    let room = smaller(limit, log.len() / 4);
+    let room = limit.min(log.len() / 4);
     clear_spare(first, second, c);
     let mut d = c;
     let mut n = 0;
     let mut searched = 0;
+    // Kept: no range counts the turns, since the choice comes before the test of the limit, at the last turn too.
     loop {
         let chosen = choose_between(first, second, d, allowance, searched);
         let next = chosen.next;
         match next {
             Next::Over(end) => {
                 return Running {
-                    outcome: outcome_of(end),
+                    outcome: Some(end),
                     counts: d,
                     steps: n,
                 };
@@ -63,13 +43,12 @@ pub fn run(
             Next::Step(entry) => {
                 if n == room {
                     return Running {
-                        outcome: Outcome::Stopped,
+                        outcome: None,
                         counts: d,
                         steps: n,
                     };
                 }
-                let at = 4 * n;
-                put_entry(&mut log[at..], entry);
+                put_entry(&mut log[4 * n..], entry);
                 d = advance(first, second, d, entry);
                 searched = chosen.searched;
                 n += 1;

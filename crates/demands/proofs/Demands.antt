@@ -6,7 +6,7 @@ use mathlib.Core.Bool.{true}
 use mathlib.Core.List.{List}
 use Prim.Native.Nat.{ℕ, ◌*◌, ◌≤◌}
 use lib.ListN.{take}
-use Rattle.judging.specs.declared.Asked.TheVariants as said
+use Rattle.std.specs.Prelude.{Ok}
 use Rattle.table.specs.Lent.{named, right_lengths}
 use Rattle.judging.specs.Check.{asked, asked_number, literals_part}
 use Rattle.table.specs.declared.Counts.{Counts}
@@ -78,7 +78,7 @@ replaying = replay-demands
 -- The replay of the log that a run wrote, from tables that hold the formula lent to the run, leaves what the run left.
 pub retracing : (a b : List ℕ) (c : Counts) (E limit : ℕ) (log : List ℕ) (r : Ran) (a' b' log' : List ℕ) → Runs a b c E limit log r a' b' log'
     → 20 ≤ run_number r.answer
-    → (x y : List ℕ) (d : Counts) → asked x y d ≡ said.Given → formula_in x y d ≡ formula_in a b c
+    → (x y : List ℕ) (d : Counts) → asked x y d ≡ Ok tt → formula_in x y d ≡ formula_in a b c
     → (q : Replayed) (x' y' : List ℕ) → Replays x y d (take (4 * r.steps) log') q x' y'
     → RetraceDemands (formula_in a' b' r.counts) r.steps q x' y'
 retracing = retrace

@@ -6,7 +6,8 @@ use mathlib.Core.Bool.{true, false}
 use mathlib.Core.List.{List}
 use Prim.Native.Nat.{ℕ, ◌<◌, ◌≤◌}
 use borrow.Author.Tests.{le-leb, lt-leb}
-use Rattle.judging.specs.declared.Asked.TheVariants as said
+use Rattle.judging.specs.declared.Unfit.TheVariants as said
+use Rattle.std.specs.Prelude.{Ok, Err}
 use Rattle.meaning.specs.Formula.{Formula, mentions}
 use Rattle.reasons.specs.Reason.{Reason, reason_of}
 use Rattle.reasons.specs.Statement.{Says}
@@ -45,17 +46,17 @@ module _ (a b : List ℕ) (c : Counts) (v E : ℕ) (r : Reasoned) (a' b' : List 
     pub first : a' ≡ a
     pub second : b' ≡ b
 
-  pub explains-1 : asked a b c ≡ said.WrongLength → Refused 1
+  pub explains-1 : asked a b c ≡ Err said.WrongLength → Refused 1
   unfolding heard_in heard_for answer_for first_after second_after reason_number
   explains-1 h =
       record { number = ap reason_number answer-is ∙ rw h; counts = ap (λ (y : Reasoned). y.counts) x.given; first = x.first ∙ rw h; second = x.second ∙ rw h }
 
-  pub explains-2 : asked a b c ≡ said.Malformed → Refused 2
+  pub explains-2 : asked a b c ≡ Err said.Malformed → Refused 2
   unfolding heard_in heard_for answer_for first_after second_after reason_number
   explains-2 h =
       record { number = ap reason_number answer-is ∙ rw h; counts = ap (λ (y : Reasoned). y.counts) x.given; first = x.first ∙ rw h; second = x.second ∙ rw h }
 
-  module _ (h : asked a b c ≡ said.Given) where
+  module _ (h : asked a b c ≡ Ok tt) where
     pub explains-13 : 1000 < E → Refused 13
     unfolding heard_in heard_for heard_of answer_for first_after second_after reason_number
     explains-13 l =

@@ -5,7 +5,7 @@ use mathlib.Core.List.{List}
 use Prim.Native.Nat.{ℕ, ◌*◌, ◌≤◌}
 use native.Mathlib.Omega.{arith}
 use lib.ListN.{take}
-use Rattle.judging.specs.declared.Asked.TheVariants as said
+use Rattle.std.specs.Prelude.{Ok}
 use Rattle.rules.specs.Run as rules
 use Rattle.rules.specs.Run.{all_applied}
 use Rattle.judging.specs.Check.{asked}
@@ -39,7 +39,7 @@ verdict text a b r a₁ b₁ w n E limit log q a₂ b₂ log' v =
 
 pub retrace : (a b : List ℕ) (c : Counts) (E limit : ℕ) (log : List ℕ) (r : Ran) (a' b' log' : List ℕ) → Runs a b c E limit log r a' b' log'
     → 20 ≤ run_number r.answer
-    → (x y : List ℕ) (d : Counts) → asked x y d ≡ said.Given → formula_in x y d ≡ formula_in a b c
+    → (x y : List ℕ) (d : Counts) → asked x y d ≡ Ok tt → formula_in x y d ≡ formula_in a b c
     → (q : Replayed) (x' y' : List ℕ) → Replays x y d (take (4 * r.steps) log') q x' y'
     → RetraceDemands (formula_in a' b' r.counts) r.steps q x' y'
 unfolding replay_in stop_answer step_number

@@ -6,7 +6,8 @@ use mathlib.Core.List.{List}
 use Prim.Native.Nat.{ℕ}
 use native.Mathlib.Omega.{arith}
 use lib.ListN.{length}
-use Rattle.judging.specs.declared.Asked.TheVariants as said
+use Rattle.judging.specs.declared.Unfit.TheVariants as said
+use Rattle.std.specs.Prelude.{Ok, Err}
 use Rattle.rules.specs.Run as rules
 use Rattle.meaning.specs.Formula.{Formula}
 use Rattle.meaning.specs.Game.{is_true}
@@ -14,9 +15,8 @@ use Rattle.rules.specs.Entry.{LogRead, bad_length, entries, read_log}
 use Rattle.rules.specs.Step.{entry_bad, refusal_number}
 use Rattle.rules.specs.Run.{Stop, all_applied, refused_by, replayed_none, replay, replay_read, replay_bytes}
 use Rattle.table.specs.Table.{counts_of}
-use Rattle.judging.specs.Check.{asked, asked_number}
+use Rattle.judging.specs.Check.{Asked, asked, asked_number}
 use Rattle.table.specs.declared.Counts.{Counts}
-use Rattle.judging.specs.declared.Asked.{Asked}
 use Rattle.standing.specs.Standing.{formula_in, first_for, second_for, first_left, second_left}
 use Rattle.replaying.specs.Stepping.{step_number}
 use Rattle.replaying.specs.Replaying.{stop_answer, replayed_for, replay_in, side_replayed, Replays}
@@ -42,7 +42,7 @@ module _ (a b : List ℕ) (c : Counts) (log : List ℕ) (r : Replayed) (a' b' : 
   replays-once q x y v = (w.given ∙ sym v.given, w.first ∙ sym v.first, w.second ∙ sym v.second)
 
   -- It replays -------------------------------------------------------------------------------------------------
-  module _ (g : asked a b c ≡ said.Given) where
+  module _ (g : asked a b c ≡ Ok tt) where
     abbrev φ : Formula
     φ = formula_in a b c
 
@@ -145,17 +145,17 @@ module _ (a b : List ℕ) (c : Counts) (log : List ℕ) (r : Replayed) (a' b' : 
       )
 
   -- It is refused ----------------------------------------------------------------------------------------------
-  refused : (s : Asked) → asked a b c ≡ s → (s ≡ said.Given → ⊥)
+  refused : (s : Asked) → asked a b c ≡ s → (s ≡ Ok tt → ⊥)
       → (step_number r.answer ≡ asked_number s) × LeftAs a b c a' b' r.counts × (r.applied ≡ 0)
   unfolding replayed_for first_left second_left step_number asked_number
-  refused said.Given g n = absurd (n refl)
-  refused said.WrongLength g n =
+  refused (Ok u) g n = absurd (n refl)
+  refused (Err said.WrongLength) g n =
       let z = w.given ∙ ap (λ (s : Asked). replayed_for s c (replay_in a b c log)) g in (
         ap (λ (q : Replayed). step_number q.answer) z,
         record { counts = ap (λ (q : Replayed). q.counts) z; first = w.first ∙ rw g; second = w.second ∙ rw g },
         ap (λ (q : Replayed). q.applied) z,
       )
-  refused said.Malformed g n =
+  refused (Err said.Malformed) g n =
       let z = w.given ∙ ap (λ (s : Asked). replayed_for s c (replay_in a b c log)) g in (
         ap (λ (q : Replayed). step_number q.answer) z,
         record { counts = ap (λ (q : Replayed). q.counts) z; first = w.first ∙ rw g; second = w.second ∙ rw g },

@@ -9,7 +9,8 @@ use borrow.Author.Tests.{leb-true, leb-false}
 use lib.Dec.{leb, eqb}
 use lib.ListN.{length, take, drop}
 use lib.Seq.{take_at, drop_at}
-use Rattle.judging.specs.declared.Asked.TheVariants as said
+use Rattle.judging.specs.declared.Unfit.TheVariants as said
+use Rattle.std.specs.Prelude.{Ok, Err}
 use Rattle.running.specs.declared.runs.RunAnswer.TheVariants as says
 use Rattle.rules.specs.Run as rules
 use Rattle.meaning.specs.Formula.{Formula}
@@ -18,9 +19,8 @@ use Rattle.rules.specs.Entry.{log_bytes}
 use Rattle.rules.specs.Choice.{blocked}
 use Rattle.rules.specs.Run.{true_end, false_end, finished, out_of_room, ended, stopped, step_bound, end_number, outcome_number}
 use Rattle.table.specs.Table.{counts_of}
-use Rattle.judging.specs.Check.{asked}
+use Rattle.judging.specs.Check.{Asked, asked}
 use Rattle.table.specs.declared.Counts.{Counts}
-use Rattle.judging.specs.declared.Asked.{Asked}
 use Rattle.course.specs.Course.{side_from}
 use Rattle.standing.specs.Standing.{formula_in, first_for, second_for}
 use Rattle.running.specs.Running.{run_number, outcome_answer, runs, refuses, heard_of, heard_for, ran_for, first_ran, second_ran, log_ran, heard_in, run_in, Runs}
@@ -87,7 +87,7 @@ module _ (a b : List ℕ) (c : Counts) (E limit : ℕ) (log : List ℕ) (r : Ran
   runs-once q x y l v = (w.given ∙ sym v.given, w.first ∙ sym v.first, w.second ∙ sym v.second, w.written ∙ sym v.written)
 
   -- It runs ----------------------------------------------------------------------------------------------------
-  module _ (g : asked a b c ≡ said.Given) (l : E ≤ 1000) (h : heard_in a b c E ≡ runs) where
+  module _ (g : asked a b c ≡ Ok tt) (l : E ≤ 1000) (h : heard_in a b c E ≡ runs) where
     abbrev x : rules.Ran
     x = run_in a b c E limit log
 
@@ -154,7 +154,7 @@ module _ (a b : List ℕ) (c : Counts) (E limit : ℕ) (log : List ℕ) (r : Ran
 
   -- It is refused ----------------------------------------------------------------------------------------------
   refused : (y : RunAnswer) → heard_in a b c E ≡ refuses y → run_number y ≡ refused_number (asked a b c) → run_number y < 20
-      → (asked a b c ≡ said.Given → E ≤ 1000 → ⊥) → RunDemands a b c E limit log r a' b' log'
+      → (asked a b c ≡ Ok tt → E ≤ 1000 → ⊥) → RunDemands a b c E limit log r a' b' log'
   unfolding ran_for first_ran second_ran log_ran
   refused y h k m n =
       let z : r ≡ record { answer = y; counts = c; steps = 0 } = w.given ∙ rw h in
@@ -174,13 +174,13 @@ module _ (a b : List ℕ) (c : Counts) (E limit : ℕ) (log : List ℕ) (r : Ran
   unfolding heard_in heard_for heard_of run_number refused_number
   run-demands = go (asked a b c) refl (leb E 1000) refl
     where
-      no-given : (s : Asked) → asked a b c ≡ s → (s ≡ said.Given → ⊥) → asked a b c ≡ said.Given → E ≤ 1000 → ⊥
+      no-given : (s : Asked) → asked a b c ≡ s → (s ≡ Ok tt → ⊥) → asked a b c ≡ Ok tt → E ≤ 1000 → ⊥
       no-given s g n k _ = n (sym g ∙ k)
 
       go : (s : Asked) → asked a b c ≡ s → (t : Bool) → leb E 1000 ≡ t → RunDemands a b c E limit log r a' b' log'
-      go said.Given g true e = ran g (leb-true E 1000 e) (rw (g, e))
-      go said.Given g false e = refused says.Allowance (rw (g, e)) (rw g) (omega arith) (λ _ l. omega (arith, leb-false E 1000 e))
-      go said.WrongLength g t e =
-          refused says.Length (rw g) (rw g) (omega arith) (no-given said.WrongLength g (λ k. let y : ◌≡◌ {A = ℕ} 0 1 = cc in omega arith))
-      go said.Malformed g t e =
-          refused says.Malformed (rw g) (rw g) (omega arith) (no-given said.Malformed g (λ k. let y : ◌≡◌ {A = ℕ} 0 1 = cc in omega arith))
+      go (Ok u) g true e = ran g (leb-true E 1000 e) (rw (g, e))
+      go (Ok u) g false e = refused says.Allowance (rw (g, e)) (rw g) (omega arith) (λ _ l. omega (arith, leb-false E 1000 e))
+      go (Err said.WrongLength) g t e =
+          refused says.Length (rw g) (rw g) (omega arith) (no-given (Err said.WrongLength) g (λ k. let y : ◌≡◌ {A = ℕ} 0 1 = cc in omega arith))
+      go (Err said.Malformed) g t e =
+          refused says.Malformed (rw g) (rw g) (omega arith) (no-given (Err said.Malformed) g (λ k. let y : ◌≡◌ {A = ℕ} 0 1 = cc in omega arith))

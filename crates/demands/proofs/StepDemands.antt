@@ -6,15 +6,15 @@ use mathlib.Core.List.{List}
 use Prim.Native.Nat.{ℕ, ◌≤◌}
 use native.Mathlib.Omega.{arith}
 use Rattle.rules.specs.Step as rules
-use Rattle.judging.specs.declared.Asked.TheVariants as said
+use Rattle.judging.specs.declared.Unfit.TheVariants as said
+use Rattle.std.specs.Prelude.{Ok, Err}
 use Rattle.meaning.specs.Formula.{Formula}
 use Rattle.meaning.specs.Game.{is_true}
 use Rattle.rules.specs.Step.{Refusal, entry_bad, not_permitted, no_room, refusal_number, refused, stepped, step_of}
 use Rattle.table.specs.Table.{counts_of}
 use Rattle.table.specs.Lent.{named}
-use Rattle.judging.specs.Check.{asked, asked_number}
+use Rattle.judging.specs.Check.{Asked, asked, asked_number}
 use Rattle.table.specs.declared.Counts.{Counts}
-use Rattle.judging.specs.declared.Asked.{Asked}
 use Rattle.apply.specs.Applied.{formula_after, side_after}
 use Rattle.standing.specs.Standing.{formula_in, first_for, second_for, first_left, second_left}
 use Rattle.replaying.specs.Stepping.{step_number, refusal_answer, step_answer, answer_for, step_counts, counts_for, step_in, formula_left, side_left, answer_of, counts_given, first_after, second_after, Steps}
@@ -44,7 +44,7 @@ module _ (a b : List ℕ) (c : Counts) (e : ℕ) (r : Stepped) (a' b' : List ℕ
       (λ i. record { answer = p i; counts = d i }, w.first ∙ sym v.first, w.second ∙ sym v.second)
 
   -- Done: the formula that stands after it is the step's result ------------------------------------------------
-  module _ (ψ : Formula) (g : asked a b c ≡ said.Given) (x : step_of (formula_in a b c) e ≡ stepped ψ) where
+  module _ (ψ : Formula) (g : asked a b c ≡ Ok tt) (x : step_of (formula_in a b c) e ≡ stepped ψ) where
     counts-are : r.counts ≡ counts_of ψ (not c.second)
     unfolding counts_given counts_for step_in step_counts
     counts-are = w.counts ∙ rw (g, x)
@@ -76,7 +76,7 @@ module _ (a b : List ℕ) (c : Counts) (e : ℕ) (r : Stepped) (a' b' : List ℕ
         }
 
   -- Refused: the record and the table that it names are as they were lent --------------------------------------
-  module _ (y : Refusal) (g : asked a b c ≡ said.Given) (x : step_of (formula_in a b c) e ≡ refused y) where
+  module _ (y : Refusal) (g : asked a b c ≡ Ok tt) (x : step_of (formula_in a b c) e ≡ refused y) where
     counts-lent : r.counts ≡ c
     unfolding counts_given counts_for step_in step_counts
     counts-lent = w.counts ∙ rw (g, x)
@@ -110,11 +110,11 @@ module _ (a b : List ℕ) (c : Counts) (e : ℕ) (r : Stepped) (a' b' : List ℕ
   step-demands = go (asked a b c) refl (step_of (formula_in a b c) e) refl
     where
       go : (s : Asked) → asked a b c ≡ s → (x : rules.StepAnswer) → step_of (formula_in a b c) e ≡ x → StepDemands a b c e r a' b'
-      go said.Given g (refused y) x = turned_down y g x
-      go said.Given g (stepped ψ) x = done ψ g x
-      go said.WrongLength g x h =
+      go (Ok u) g (refused y) x = turned_down y g x
+      go (Ok u) g (stepped ψ) x = done ψ g x
+      go (Err said.WrongLength) g x h =
           nothing_written 1 (rw g) (omega arith) (omega arith) (ap step_number w.answer ∙ rw g)
           (record { counts = w.counts ∙ rw g; first = w.first ∙ rw g; second = w.second ∙ rw g })
-      go said.Malformed g x h =
+      go (Err said.Malformed) g x h =
           nothing_written 2 (rw g) (omega arith) (omega arith) (ap step_number w.answer ∙ rw g)
           (record { counts = w.counts ∙ rw g; first = w.first ∙ rw g; second = w.second ∙ rw g })

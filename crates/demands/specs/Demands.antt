@@ -2,8 +2,8 @@
 -- theorems: whatever keeps to an operation's contract meets its demands. All numbers are document 01's.
 -- The tables a and b are lent with the record c, and are left as a' and b'.
 -- Assumes nothing.
-use Rattle.std.specs.Prelude.{◌≡◌, true, false, List, [], ◌∷◌, ℕ, ◌+◌, ◌*◌, ◌/◌, ◌≤◌, ◌<◌, min, length, take, drop, replicate}
-use Rattle.judging.specs.declared.Asked.TheVariants as said
+use Rattle.std.specs.Prelude.{◌≡◌, true, false, List, [], ◌∷◌, ℕ, ◌+◌, ◌*◌, ◌/◌, ◌≤◌, ◌<◌, min, length, take, drop, replicate, Ok, Err}
+use Rattle.judging.specs.declared.Unfit.TheVariants as said
 use Rattle.meaning.specs.Formula.{Formula}
 use Rattle.meaning.specs.Game.{is_true}
 use Rattle.meaning.specs.Tidy.{tidied}
@@ -15,9 +15,8 @@ use Rattle.rules.specs.Choice.{allowed, blocked}
 use Rattle.rules.specs.Run.{all_applied, replay, replay_bytes}
 use Rattle.table.specs.Table.{literals_at, table_length, all_literals}
 use Rattle.table.specs.Lent.{named, right_lengths}
-use Rattle.judging.specs.Check.{asked, asked_number}
+use Rattle.judging.specs.Check.{Asked, asked, asked_number}
 use Rattle.table.specs.declared.Counts.{Counts}
-use Rattle.judging.specs.declared.Asked.{Asked}
 use Rattle.reader.specs.Reading.{read_number, lengths_right}
 use Rattle.reader.specs.declared.Reading.{Reading}
 use Rattle.writer.specs.Written.{write_number, text_of, number_of}
@@ -38,7 +37,7 @@ no_counts = record { variables = 0; clauses = 0; literals = 0; second = false }
 
 -- a formula stands where the record d says, in tables that the next call takes; φ has the same truth
 pub record Left (φ : Formula) (a' b' : List ℕ) (d : Counts) : Type 0 where
-  pub taken : asked a' b' d ≡ said.Given
+  pub taken : asked a' b' d ≡ Ok tt
   pub same_truth : is_true (formula_in a' b' d) ≡ is_true φ
 
 -- the tables and the record are left as x, y and z: those that were lent, where there is "nothing written", or zeros
@@ -72,8 +71,8 @@ pub record WriteDemands (a b : List ℕ) (c : Counts) (out : List ℕ) (r : Writ
   pub writes : write_number r.answer ≡ 0
       → (take r.bytes after ≡ text_of a b c) × (read (take r.bytes after) ≡ good (formula_in a b c)) × (drop r.bytes after ≡ drop r.bytes out)
   -- tables that nothing is said against are written where there is room, and 65,536 bytes are room for every text
-  pub accepts : asked a b c ≡ said.Given → length (text_of a b c) ≤ length out → write_number r.answer ≡ 0
-  pub short : asked a b c ≡ said.Given → length (text_of a b c) ≤ max_text
+  pub accepts : asked a b c ≡ Ok tt → length (text_of a b c) ≤ length out → write_number r.answer ≡ 0
+  pub short : asked a b c ≡ Ok tt → length (text_of a b c) ≤ max_text
   -- 1, 2, 11, in this order; a refusal leaves the output
   pub number : write_number r.answer ≡ number_of a b c out
   pub refuses : (write_number r.answer ≡ 0 → ⊥) → (r.bytes ≡ 0) × (after ≡ out)
@@ -81,20 +80,20 @@ pub record WriteDemands (a b : List ℕ) (c : Counts) (out : List ℕ) (r : Writ
 -- literals, literals_number -----------------------------------------------------------------------------------
 pub record LiteralsDemands (a b : List ℕ) (c : Counts) (part : List ℕ) : Type 0 where
   -- the literals of the formula, clause by clause: the used part of the table that the record names
-  pub given : asked a b c ≡ said.Given → (part ≡ all_literals (formula_in a b c).clauses) × (part ≡ take c.literals (drop literals_at (named a b c)))
-  pub refuses : (asked a b c ≡ said.Given → ⊥) → part ≡ []
+  pub given : asked a b c ≡ Ok tt → (part ≡ all_literals (formula_in a b c).clauses) × (part ≡ take c.literals (drop literals_at (named a b c)))
+  pub refuses : (asked a b c ≡ Ok tt → ⊥) → part ≡ []
 
 pub record NumberDemands (a b : List ℕ) (c : Counts) (n : ℕ) : Type 0 where
-  pub given : n ≡ 0 → asked a b c ≡ said.Given
+  pub given : n ≡ 0 → asked a b c ≡ Ok tt
   pub length : n ≡ 1 → right_lengths a b ≡ false
-  pub malformed : n ≡ 2 → asked a b c ≡ said.Malformed
+  pub malformed : n ≡ 2 → asked a b c ≡ Err said.Malformed
   pub only : n ≤ 2
 
 -- step --------------------------------------------------------------------------------------------------------
 pub record StepDemands (a b : List ℕ) (c : Counts) (e : ℕ) (r : Stepped) (a' b' : List ℕ) : Type 0 where
   -- 0: the formula that is left is the step's result, of the same truth
   pub steps : step_number r.answer ≡ 0
-      → (asked a b c ≡ said.Given) × (step_of (formula_in a b c) e ≡ stepped (formula_in a' b' r.counts)) × Left (formula_in a b c) a' b' r.counts
+      → (asked a b c ≡ Ok tt) × (step_of (formula_in a b c) e ≡ stepped (formula_in a' b' r.counts)) × Left (formula_in a b c) a' b' r.counts
   -- 10, 11, 12: the step's own refusal; the record and the table that it names are as they were
   pub refuses : 10 ≤ step_number r.answer
       → (y : Refusal) × (step_of (formula_in a b c) e ≡ refused y) × (step_number r.answer ≡ refusal_number y) × (r.counts ≡ c) × (named a' b' c ≡ named a b c)
@@ -122,7 +121,7 @@ pub record RunSays (E n : ℕ) (φ ψ : Formula) (steps k : ℕ) : Type 0 where
   pub ends : most_steps E φ ≤ n → k ≡ 24 → ⊥
 
 pub record RunDone (a b : List ℕ) (c : Counts) (E limit : ℕ) (log : List ℕ) (r : Ran) (a' b' log' : List ℕ) : Type 0 where
-  pub given : asked a b c ≡ said.Given
+  pub given : asked a b c ≡ Ok tt
   pub left : Left (formula_in a b c) a' b' r.counts
   pub says : RunSays E (min limit (length log / 4)) (formula_in a b c) (formula_in a' b' r.counts) r.steps (run_number r.answer)
   -- the steps are those of the definition's run, and the log has an entry for each; the bytes past them stay
@@ -134,13 +133,13 @@ pub record RunDone (a b : List ℕ) (c : Counts) (E limit : ℕ) (log : List ℕ
 
 -- the numbers 1, 2 and 13, by what is said of the tables
 unfoldable pub refused_number : Asked → ℕ
-refused_number said.WrongLength = 1
-refused_number said.Malformed = 2
-refused_number said.Given = 13
+refused_number (Err said.WrongLength) = 1
+refused_number (Err said.Malformed) = 2
+refused_number (Ok u) = 13
 
 pub record RunDemands (a b : List ℕ) (c : Counts) (E limit : ℕ) (log : List ℕ) (r : Ran) (a' b' log' : List ℕ) : Type 0 where
   pub runs : 20 ≤ run_number r.answer → RunDone a b c E limit log r a' b' log'
-  pub accepts : asked a b c ≡ said.Given → E ≤ 1000 → 20 ≤ run_number r.answer
+  pub accepts : asked a b c ≡ Ok tt → E ≤ 1000 → 20 ≤ run_number r.answer
   -- 1, 2, 13: nothing written, 0 steps
   pub refuses : run_number r.answer < 20
       → (run_number r.answer ≡ refused_number (asked a b c)) × LeftAs a b c a' b' r.counts × (log' ≡ log) × (r.steps ≡ 0)
@@ -163,14 +162,14 @@ pub record ReplaySays (φ : Formula) (es : List ℕ) (ψ : Formula) (n k : ℕ) 
 
 pub record ReplayDemands (a b : List ℕ) (c : Counts) (log : List ℕ) (r : Replayed) (a' b' : List ℕ) : Type 0 where
   -- 0, 10, 11, 12: whatever the log, the formula that is left has the same truth
-  pub left : asked a b c ≡ said.Given → Left (formula_in a b c) a' b' r.counts
-  pub replays : asked a b c ≡ said.Given → (es : List ℕ) → read_log log ≡ entries es
+  pub left : asked a b c ≡ Ok tt → Left (formula_in a b c) a' b' r.counts
+  pub replays : asked a b c ≡ Ok tt → (es : List ℕ) → read_log log ≡ entries es
       → ReplaySays (formula_in a b c) es (formula_in a' b' r.counts) r.applied (step_number r.answer)
   -- a log whose length is no multiple of 4 is refused before any step
-  pub bad-length : asked a b c ≡ said.Given → read_log log ≡ bad_length
+  pub bad-length : asked a b c ≡ Ok tt → read_log log ≡ bad_length
       → (step_number r.answer ≡ 12) × (r.applied ≡ 0) × (formula_in a' b' r.counts ≡ formula_in a b c)
   -- 1, 2: nothing written
-  pub refuses : (asked a b c ≡ said.Given → ⊥)
+  pub refuses : (asked a b c ≡ Ok tt → ⊥)
       → (step_number r.answer ≡ asked_number (asked a b c)) × LeftAs a b c a' b' r.counts × (r.applied ≡ 0)
 
 -- Two calls one after the other -------------------------------------------------------------------------------

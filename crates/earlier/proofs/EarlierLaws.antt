@@ -2,11 +2,13 @@
 -- Assumes nothing.
 use Prim.Native.Nat.{ℕ, ◌+◌, ◌*◌, ◌≤◌, ◌<◌}
 use mathlib.Core.Path.{◌≡◌, refl, sym, ap, fun_ext, ◌∙◌}
-use mathlib.Core.Bool.{Bool, true, false, ◌&&◌, ◌||◌, cond}
+use mathlib.Core.Bool.{Bool, true, false, ◌&&◌, ◌||◌, not, cond}
 use mathlib.Core.List.{List, [], ◌∷◌}
 use lib.ListN.{length, get_or, take, drop, drop_of_length-le}
 use lib.Seq.{take-length, drop-cons}
 use lib.Dec.{ltb}
+use mir.Val.{bool_byte}
+use native.Mathlib.Omega.{arith}
 use borrow.Author.Tests.{lt-ltb, le-ltb}
 use native.Mathlib.Numerals.{add-one}
 use Rattle.meaning.specs.Lists.{all_of, any_of, has}
@@ -179,21 +181,15 @@ module _ (φ : Formula) (a : ℕ) (c z y d : List ℕ) (turned : Bool) (is : y �
   unfolding makes_with
   with-straight t e = rw (t, ← is) e
 
-pub own-turned : (a : ℕ) (turned : Bool) → turned ≡ true → 2 * a + 1 ≡ own_of a turned
-unfolding own_of negated
-own-turned a turned t = rw t
+pub own_is : (a : ℕ) (turned : Bool) → 2 * a + bool_byte turned ≡ own_of a turned
+unfolding own_of plain negated
+own_is a true = refl
+own_is a false = omega arith
 
-pub own-straight : (a : ℕ) (turned : Bool) → turned ≡ false → 2 * a ≡ own_of a turned
-unfolding own_of plain
-own-straight a turned t = rw t
-
-pub other-turned : (a : ℕ) (turned : Bool) → turned ≡ true → 2 * a ≡ other_of a turned
-unfolding other_of plain
-other-turned a turned t = rw t
-
-pub other-straight : (a : ℕ) (turned : Bool) → turned ≡ false → 2 * a + 1 ≡ other_of a turned
-unfolding other_of negated
-other-straight a turned t = rw t
+pub other-own : (a : ℕ) (turned : Bool) → own_of a (not turned) ≡ other_of a turned
+unfolding own_of other_of
+other-own a true = refl
+other-own a false = refl
 
 -- the literal that z lacks, literal by literal
 module _ (z : List ℕ) (o : ℕ) (c : List ℕ) (i : ℕ) where

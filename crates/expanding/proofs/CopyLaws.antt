@@ -1,12 +1,10 @@
 -- Laws of the copies: the entries that are left make the whole.
 -- Assumes nothing.
-use Prim.Native.Nat.{ℕ, zero, suc, ◌+◌, ◌-◌, ◌*◌, ◌%◌, ◌≤◌, ◌<◌}
+use Prim.Native.Nat.{ℕ, zero, suc, ◌+◌, ◌-◌, ◌*◌, ◌≤◌, ◌<◌}
 use mathlib.Core.Path.{◌≡◌, refl, sym, ap, ◌∙◌}
 use mathlib.Core.Bool.{Bool, true, false, not, cond}
 use mathlib.Core.List.{List, [], ◌∷◌, ◌++◌, map, append-nil, append_assoc}
-use lib.ListN.{length, get_or, take, drop, length-append, drop_of_length-le}
-use lib.Seq.{drop-cons}
-use native.Mathlib.Numerals.{add-one}
+use lib.ListN.{length, take, length-append}
 use lib.Dec.{leb}
 use native.Mathlib.Omega.{arith}
 use Rattle.meaning.specs.Lists.{all_of, keep_if, up_from}
@@ -16,10 +14,8 @@ use Rattle.rules.specs.Eliminate.{fresh}
 use Rattle.table.specs.Table.{table_of, counts_of, with_variable, Holds}
 use Rattle.table.specs.Answer.{Became, Built}
 use Rattle.table.specs.declared.Counts.{Counts}
-use Rattle.table.specs.declared.Pushed.{Pushed}
-use Rattle.table.specs.declared.Pushed.TheVariants.{Done, Full}
-use Rattle.expanding.specs.Copies.{existentials, with_entries, copies_from}
-use Rattle.meaning.proofs.Literals.{even-of, odd-of}
+use Rattle.std.specs.Prelude.{Option, Some, None}
+use Rattle.expanding.specs.Copies.{with_entries, copies_from}
 use Rattle.meaning.proofs.Basics.{and_l, clash, false_of}
 use Rattle.meaning.proofs.Lists.{all_append}
 use Rattle.meaning.proofs.Parts.{room_of, of_room}
@@ -62,17 +58,17 @@ one-copy n v = ap (λ (l : List ℕ). plain v ∷ l) (no_copies n)
 
 -- One number ---------------------------------------------------------------------------------------------------------
 module _ (p : List ℕ) {ψ : Formula} {t : List ℕ} {e : Counts} (h : Holds ψ t e) (enough v : ℕ) where
-  pub copy-enough : enough ≤ e.variables → Built (with_entries ψ (copies_from p (enough - e.variables) v 1)) e.second (Done e) t
+  pub copy-enough : enough ≤ e.variables → Built (with_entries ψ (copies_from p (enough - e.variables) v 1)) e.second (Some e) t
   unfolding copies_from
   copy-enough k =
       let z : enough - e.variables ≡ 0 = omega arith in
       rw (z, entries_none ψ) (built-there h)
 
-  pub copy-there : (b : Bool) → b ≡ mentions p v → b ≡ true → Built (with_entries ψ (copies_from p (enough - e.variables) v 1)) e.second (Done e) t
+  pub copy-there : (b : Bool) → b ≡ mentions p v → b ≡ true → Built (with_entries ψ (copies_from p (enough - e.variables) v 1)) e.second (Some e) t
   unfolding copies_from keep_if up_from
   copy-there b is k = rw (← is, k) (rw (no_copies (enough - e.variables), entries_none ψ) (built-there h))
 
-  pub copy-new : (b : Bool) → b ≡ mentions p v → b ≡ false → e.variables < enough → (r : Pushed) (t' : List ℕ) → Became ψ (with_variable ψ (2 * v)) e.second r t' → Built (with_entries ψ (copies_from p (enough - e.variables) v 1)) e.second r t'
+  pub copy-new : (b : Bool) → b ≡ mentions p v → b ≡ false → e.variables < enough → (r : Option Counts) (t' : List ℕ) → Became ψ (with_variable ψ (2 * v)) e.second r t' → Built (with_entries ψ (copies_from p (enough - e.variables) v 1)) e.second r t'
   unfolding copies_from keep_if up_from with_entries with_variable
   copy-new b is k m r t' q =
       let z : enough - e.variables ≡ suc (enough - e.variables - 1) = omega arith in
@@ -106,17 +102,17 @@ copying-start p {ψ} {t} {d} h n k enough m l e q =
     record { formula = ψ; holds = h; second = refl; left = rw (z, q, ← l) }
 
 module _ (p : List ℕ) (ψ : Formula) (enough v m : ℕ) (all : List ℕ) (b : Bool) (t : List ℕ) (e : Counts) (g : Copying p ψ enough v m all b t e) where
-  pub copying-end : m ≡ 0 → Built (with_entries ψ all) b (Done e) t
+  pub copying-end : m ≡ 0 → Built (with_entries ψ all) b (Some e) t
   unfolding copies_from up_from keep_if
   copying-end z =
       let x : g.formula ≡ with_entries ψ all = sym (entries_none g.formula) ∙ ap (with_entries g.formula) (sym (rw z (no_copies (enough - e.variables)))) ∙ g.left in
       let f : fits (with_entries ψ all) ≡ true = ap fits (sym x) ∙ g.holds.fitting in
       record {
-        answer = rw f (ap Done (g.holds.counts ∙ ap (counts_of g.formula) g.second ∙ ap (λ (χ : Formula). counts_of χ b) x));
+        answer = rw f (ap Some (g.holds.counts ∙ ap (counts_of g.formula) g.second ∙ ap (λ (χ : Formula). counts_of χ b) x));
         table = λ y. g.holds.table ∙ ap table_of x;
       }
 
-  module _ (m' w : ℕ) (is : m ≡ suc m') (next : w ≡ suc v) (r : Pushed) (t' : List ℕ) (k : Built (with_entries g.formula (copies_from p (enough - e.variables) v 1)) e.second r t') where
+  module _ (m' w : ℕ) (is : m ≡ suc m') (next : w ≡ suc v) (r : Option Counts) (t' : List ℕ) (k : Built (with_entries g.formula (copies_from p (enough - e.variables) v 1)) e.second r t') where
     abbrev first : List ℕ
     first = copies_from p (enough - e.variables) v 1
 
@@ -126,12 +122,12 @@ module _ (p : List ℕ) (ψ : Formula) (enough v m : ℕ) (all : List ℕ) (b : 
         ∙ ap (with_entries g.formula) (ap (λ (x : ℕ). first ++ copies_from p (enough - e.variables - length first) x m') next ∙ sym (split-copies p (enough - e.variables) v m') ∙ ap (copies_from p (enough - e.variables) v) (sym is))
         ∙ g.left
 
-    pub copying-full : r ≡ Full → Built (with_entries ψ all) b Full t'
+    pub copying-full : r ≡ None → Built (with_entries ψ all) b None t'
     copying-full q =
         built-not (with_entries ψ all) b t'
         (ap fits (sym onward) ∙ entries-not (with_entries g.formula first) (copies_from p (enough - e.variables - length first) w m') (built-full (with_entries g.formula first) e.second r t' k q))
 
-    pub copying-next : (e' : Counts) → r ≡ Done e' → Copying p ψ enough w m' all b t' e'
+    pub copying-next : (e' : Counts) → r ≡ Some e' → Copying p ψ enough w m' all b t' e'
     unfolding with_entries
     copying-next e' q =
         let h = built-done (with_entries g.formula first) e.second r t' k e' q in
@@ -142,22 +138,3 @@ module _ (p : List ℕ) (ψ : Formula) (enough v m : ℕ) (all : List ℕ) (b : 
           second = built-second (with_entries g.formula first) e.second r t' k e' q ∙ g.second;
           left = ap (λ (n : ℕ). with_entries (with_entries g.formula first) (copies_from p n w m')) (sym z) ∙ onward;
         }
-
--- Counting ---------------------------------------------------------------------------------------------------------
-module _ (p : List ℕ) (from n i : ℕ) (inv : n + existentials (drop i p) ≡ existentials (drop from p)) (h : i < length p) where
-  pub count-even : get_or p i 0 % 2 ≡ 0 → n + 1 + existentials (drop (i + 1) p) ≡ existentials (drop from p)
-  unfolding existentials keep_if
-  count-even e =
-      let d : existentials (drop i p) ≡ suc (existentials (drop (i + 1) p)) = rw (add-one, drop-cons p i 0 h, even-of (get_or p i 0) e) in
-      omega (arith, d, inv)
-
-  pub count-odd : (get_or p i 0 % 2 ≡ 0 → ⊥) → n + existentials (drop (i + 1) p) ≡ existentials (drop from p)
-  unfolding existentials keep_if
-  count-odd e =
-      let d : existentials (drop i p) ≡ existentials (drop (i + 1) p) = rw (add-one, drop-cons p i 0 h, odd-of (get_or p i 0) (omega arith)) in
-      omega (arith, d, inv)
-
-pub count-end : (p : List ℕ) (from n i : ℕ) → n + existentials (drop i p) ≡ existentials (drop from p) → length p ≤ i → n ≡ existentials (drop from p)
-unfolding existentials keep_if
-count-end p from n i inv h =
-    let d : existentials (drop i p) ≡ 0 = rw (drop_of_length-le p {i = i} h) in omega (arith, d, inv)

@@ -17,14 +17,14 @@ use Rattle.rules.specs.Step.{permitted, raw_of, result_of}
 use Rattle.table.specs.Table.{decode, Holds}
 use Rattle.table.specs.Answer.{Built}
 use Rattle.table.specs.declared.Counts.{Counts}
-use Rattle.table.specs.declared.Pushed.{Pushed}
-use Rattle.table.specs.declared.Pushed.TheVariants.{Done, Full}
+use Rattle.std.specs.Prelude.{Option, Some, None}
 use Rattle.permits.specs.Places.{place_of}
 use Rattle.rebuilds.specs.Given.{Given}
 use Rattle.rebuilds.specs.Raws.{bare, with_raws}
 use Rattle.recipes.specs.Recipe.{raws_by}
 use Rattle.recipes.specs.Left.{Shrunk}
-use Rattle.expanding.specs.Copies.{existentials, with_entries, halves_by, expanded_by}
+use Rattle.expanding.specs.Copies.{with_entries, halves_by, expanded_by}
+use Rattle.permits.specs.Variables.{existentials}
 use Rattle.recipes.specs.declared.Which.TheVariants.{Near, Far}
 use Rattle.recipes.specs.declared.Turn.TheVariants.{Same, Drop, Copy}
 use Rattle.meaning.proofs.Basics.{clash, and_r}
@@ -43,7 +43,7 @@ use Rattle.expanding.proofs.ExpandPrefix.{split-of, good_new, inner-many, inner-
 use Rattle.expanding.proofs.ExpandClauses.{expanded-are}
 
 -- One recipe after another ----------------------------------------------------------------------------------------------
-module _ (v s n : ℕ) (ψ : Formula) (cs : List (List ℕ)) (b : Bool) (r : Pushed) (t : List ℕ) where
+module _ (v s n : ℕ) (ψ : Formula) (cs : List (List ℕ)) (b : Bool) (r : Option Counts) (t : List ℕ) where
   -- with the other clauses; with the clauses where v is false; and what comes last
   abbrev others-in : Formula
   others-in = with_raws ψ (raws_by (Near s) Same ψ.prefix 0 cs)
@@ -54,20 +54,20 @@ module _ (v s n : ℕ) (ψ : Formula) (cs : List (List ℕ)) (b : Bool) (r : Pus
   abbrev true-raws : List ℕ → List (List ℕ)
   true-raws q = raws_by (Far s (2 * v)) (Copy (2 * v + 1) s n) q 0 cs
 
-  pub halves-full : Built false-in b r t → r ≡ Full → (t' : List ℕ) → Built (with_raws ψ (halves_by v s n ψ.prefix cs)) b Full t'
+  pub halves-full : Built false-in b r t → r ≡ None → (t' : List ℕ) → Built (with_raws ψ (halves_by v s n ψ.prefix cs)) b None t'
   unfolding halves_by
   halves-full k q t' = then-full ψ (raws_by (Far s (2 * v + 1)) (Drop (2 * v)) ψ.prefix 0 cs) b r t k true-raws q t'
 
-  pub halves-done : Built false-in b r t → (e : Counts) → r ≡ Done e → (r' : Pushed) (t' : List ℕ)
+  pub halves-done : Built false-in b r t → (e : Counts) → r ≡ Some e → (r' : Option Counts) (t' : List ℕ)
       → Built (with_raws false-in (true-raws false-in.prefix)) e.second r' t' → Built (with_raws ψ (halves_by v s n ψ.prefix cs)) b r' t'
   unfolding halves_by
   halves-done k e q r' t' m = then-done ψ (raws_by (Far s (2 * v + 1)) (Drop (2 * v)) ψ.prefix 0 cs) b r t k true-raws e q r' t' m
 
-  pub expanded-full : Built others-in b r t → r ≡ Full → (t' : List ℕ) → Built (with_raws ψ (expanded_by v s n ψ.prefix cs)) b Full t'
+  pub expanded-full : Built others-in b r t → r ≡ None → (t' : List ℕ) → Built (with_raws ψ (expanded_by v s n ψ.prefix cs)) b None t'
   unfolding expanded_by
   expanded-full k q t' = then-full ψ (raws_by (Near s) Same ψ.prefix 0 cs) b r t k (λ p. halves_by v s n p cs) q t'
 
-  pub expanded-done : Built others-in b r t → (e : Counts) → r ≡ Done e → (r' : Pushed) (t' : List ℕ)
+  pub expanded-done : Built others-in b r t → (e : Counts) → r ≡ Some e → (r' : Option Counts) (t' : List ℕ)
       → Built (with_raws others-in (halves_by v s n others-in.prefix cs)) e.second r' t'
       → Built (with_raws ψ (expanded_by v s n ψ.prefix cs)) b r' t'
   unfolding expanded_by
@@ -133,8 +133,8 @@ module _ {φ : Formula} {source : List ℕ} {c : Counts} {ranks : List ℕ} (g :
       unfolding result_of raw_of expand_raw expand_with tidied build with_raws with_entries bare
       result-is = rw many
 
-      pub expand-full : (b : Bool) (r : Pushed) (t : List ℕ) → Built (front n) b r t → r ≡ Full → (second : Bool) (t' : List ℕ)
-          → Built (result_of φ expand a 0) second Full t'
+      pub expand-full : (b : Bool) (r : Option Counts) (t : List ℕ) → Built (front n) b r t → r ≡ None → (second : Bool) (t' : List ℕ)
+          → Built (result_of φ expand a 0) second None t'
       expand-full b r t k q second t' =
           built-not (result_of φ expand a 0) second t' (ap fits (sym result-is) ∙ raws-not (front n) raws (built-full (front n) b r t k q))
 
@@ -150,8 +150,8 @@ module _ {φ : Formula} {source : List ℕ} {c : Counts} {ranks : List ℕ} (g :
             let numbers = numbers-in φ g.well g.holds.fitting in
             expanded-are p a n (d.variables - n) (good_of φ g.well) x many at numbers (small f) φ.clauses (bound_all φ g.well)
 
-        pub expand-done : (b : Bool) → d.second ≡ b → (r : Pushed) (t' : List ℕ) → Built (front n) d.second r t' → (e : Counts) → r ≡ Done e
-            → (r' : Pushed) (t'' : List ℕ) → Built (with_raws (front n) by-recipes) e.second r' t'' → Built (result_of φ expand a 0) b r' t''
+        pub expand-done : (b : Bool) → d.second ≡ b → (r : Option Counts) (t' : List ℕ) → Built (front n) d.second r t' → (e : Counts) → r ≡ Some e
+            → (r' : Option Counts) (t'' : List ℕ) → Built (with_raws (front n) by-recipes) e.second r' t'' → Built (result_of φ expand a 0) b r' t''
         expand-done b is r t' k e q r' t'' m =
             rw (raws-are (built-done (front n) d.second r t' k e q).fitting, result-is, built-second (front n) d.second r t' k e q ∙ is) at m
 

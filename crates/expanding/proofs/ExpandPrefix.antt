@@ -12,7 +12,7 @@ use Rattle.meaning.specs.Formula.{var, odd, plain, is_var, mentions, drop_var, r
 use Rattle.meaning.specs.WellFormed.{good_prefix}
 use Rattle.rules.specs.Eliminate.{all_exist, universals_first, inner, fresh}
 use Rattle.permits.specs.Places.{place_of}
-use Rattle.expanding.specs.Copies.{existentials}
+use Rattle.permits.specs.Variables.{existentials}
 use Rattle.meaning.proofs.Basics.{by_cases, clash, false_of, and_l, and_r, not-true, eqb-self}
 use Rattle.meaning.proofs.Lists.{any-has, any-keep-le, all-has, all-of-has, keep_all}
 use Rattle.meaning.proofs.Literals.{var-of-plain}

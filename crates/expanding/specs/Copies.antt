@@ -1,15 +1,11 @@
 -- Step 7: the copies, entries at the right end of a prefix, and the clauses by recipes.
 -- Assumes nothing.
-use Rattle.std.specs.Prelude.{ℕ, ◌+◌, ◌*◌, not, List, ◌++◌, map, length, take}
+use Rattle.std.specs.Prelude.{ℕ, ◌+◌, ◌*◌, not, List, ◌++◌, map, take}
 use Rattle.meaning.specs.Lists.{keep_if, up_from}
-use Rattle.meaning.specs.Formula.{Formula, odd, plain, mentions}
+use Rattle.meaning.specs.Formula.{Formula, plain, mentions}
 use Rattle.recipes.specs.Recipe.{raws_by}
 use Rattle.recipes.specs.declared.Which.TheVariants.{Near, Far}
 use Rattle.recipes.specs.declared.Turn.TheVariants.{Same, Drop, Copy}
-
--- how many entries are existential
-unfoldable pub existentials : List ℕ → ℕ
-existentials p = length (keep_if (λ q. not (odd q)) p)
 
 -- more entries at the right end
 unfoldable pub with_entries : Formula → List ℕ → Formula

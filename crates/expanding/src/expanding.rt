@@ -11,11 +11,11 @@ ghost use Rattle.recipes.specs.Recipe.{Ready};
 ghost use Rattle.recipes.specs.Left.{Shrunk};
 ghost use Rattle.expanding.specs.Copies.{halves_by, expanded_by};
 
-use crate::copies::{count_inner, push_copies};
-use permits::place_of;
+use crate::copies::push_copies;
+use permits::{count_existentials, place_of};
 use rebuilds::{add_all, copy_prefix};
 use recipes::{Turn, Which};
-use table::{Counts, Pushed, rank_prefix};
+use table::{Counts, Ranks, Scratch, rank_prefix};
 
 // The clauses that reach behind place s: with v false, then with v true and each variable behind s become its copy.
 fn add_halves(
@@ -26,19 +26,19 @@ fn add_halves(
     v: u16,
     s: usize,
     n: u16,
-    scratch: &mut [u16],
-    ranks: &[u16],
-) -> Pushed
+    scratch: &mut Scratch,
+    ranks: &Ranks,
+) -> Option<Counts>
     requires held { Held source.now c }
-    requires held_2 { Held target.old d }
+    requires held_target { Held target.old d }
     requires ready { Ready (take d.variables target.old) ranks.now }
-    requires scratch_len { (length scratch.old ≡ 1023) × (v ≤ 1023) }
+    requires bound { v ≤ 1023 }
     requires shrunk { Shrunk v (take d.variables target.old) (decode source.now c) }
     ensures { (φ ψ : Formula) → Holds φ source.now c → Holds ψ target.old d → Built (with_raws ψ (halves_by v s n ψ.prefix φ.clauses)) d.second result target.new }
 {
     let plain = 2 * v;
     let negated = 2 * v + 1;
-    match add_all(
+    let e = add_all(
         source,
         c,
         target,
@@ -48,22 +48,18 @@ fn add_halves(
         Turn::Drop(plain),
         scratch,
         ranks,
-    ) {
-        Pushed::Done(e) => {
-            add_all(
-                source,
-                c,
-                target,
-                e,
-                v,
-                Which::Far(s, plain),
-                Turn::Copy(negated, s, n),
-                scratch,
-                ranks,
-            )
-        }
-        Pushed::Full => Pushed::Full,
-    }
+    )?;
+    add_all(
+        source,
+        c,
+        target,
+        e,
+        v,
+        Which::Far(s, plain),
+        Turn::Copy(negated, s, n),
+        scratch,
+        ranks,
+    )
 }
 
 // The clauses that do not reach behind place s, then the others twice.
@@ -75,17 +71,17 @@ fn add_expanded(
     v: u16,
     s: usize,
     n: u16,
-    scratch: &mut [u16],
-    ranks: &[u16],
-) -> Pushed
+    scratch: &mut Scratch,
+    ranks: &Ranks,
+) -> Option<Counts>
     requires held { Held source.now c }
-    requires held_2 { Held target.old d }
+    requires held_target { Held target.old d }
     requires ready { Ready (take d.variables target.old) ranks.now }
-    requires scratch_len { (length scratch.old ≡ 1023) × (v ≤ 1023) }
+    requires bound { v ≤ 1023 }
     requires shrunk { Shrunk v (take d.variables target.old) (decode source.now c) }
     ensures { (φ ψ : Formula) → Holds φ source.now c → Holds ψ target.old d → Built (with_raws ψ (expanded_by v s n ψ.prefix φ.clauses)) d.second result target.new }
 {
-    match add_all(
+    let e = add_all(
         source,
         c,
         target,
@@ -95,10 +91,8 @@ fn add_expanded(
         Turn::Same,
         scratch,
         ranks,
-    ) {
-        Pushed::Done(e) => add_halves(source, c, target, e, v, s, n, scratch, ranks),
-        Pushed::Full => Pushed::Full,
-    }
+    )?;
+    add_halves(source, c, target, e, v, s, n, scratch, ranks)
 }
 
 // 7. The other clauses; the clauses with an inner existential, a false; the same with a true and the inner existentials renamed.
@@ -106,28 +100,24 @@ pub fn expand_into(
     source: &[u16],
     c: Counts,
     target: &mut [u16],
-    scratch: &mut [u16],
-    ranks: &mut [u16],
+    scratch: &mut Scratch,
+    ranks: &mut Ranks,
     a: usize,
-) -> Pushed
+) -> Option<Counts>
     requires { Begun source.now c target.old scratch.old ranks.old }
     ensures { (φ : Formula) → Given φ source.now c ranks.old → permitted φ expand a 0 ≡ true → Built (result_of φ expand a 0) (not c.second) result target.new }
 {
     if Counts::VARIABLES < a {
-        return Pushed::Full;
+        return None;
     }
     let v = a as u16;
     let k = c.variables;
-    let n = count_inner(&source[..k], place_of(ranks, a));
+    let n = count_existentials(&source[..k], place_of(ranks, a));
     let d = copy_prefix(source, c, v, target, !c.second);
-    match push_copies(target, d, ranks, k as u16, n as u16) {
-        Pushed::Done(e) => {
-            let m = e.variables;
-            rank_prefix(&target[..m], ranks);
-            // the inner existentials stand right of this place
-            let s = d.variables - n;
-            add_expanded(source, c, target, e, v, s, n as u16, scratch, ranks)
-        }
-        Pushed::Full => Pushed::Full,
-    }
+    let e = push_copies(target, d, ranks, k as u16, n as u16)?;
+    let m = e.variables;
+    rank_prefix(&target[..m], ranks);
+    // the inner existentials stand right of this place
+    let s = d.variables - n;
+    add_expanded(source, c, target, e, v, s, n as u16, scratch, ranks)
 }

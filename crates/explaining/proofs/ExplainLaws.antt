@@ -6,20 +6,20 @@ use mathlib.Core.List.{List}
 use Prim.Native.Nat.{ℕ, ◌<◌, ◌≤◌}
 use borrow.Author.Tests.{le-leb, lt-leb}
 use lib.ListN.{take}
-use Rattle.judging.specs.declared.Asked.TheVariants as said
+use Rattle.judging.specs.declared.Unfit.{Unfit}
+use Rattle.std.specs.Prelude.{Ok, Err}
 use Rattle.explaining.specs.declared.explains.ReasonAnswer.TheVariants as says
 use Rattle.meaning.specs.Formula.{Formula, mentions}
 use Rattle.reasons.specs.Reason.{of_variables, of_clauses, of_literals, Reason, verdict, next_entry, own_entry, too_far_right, not_lighter, between, too_heavy, over_limit, reason_of}
 use Rattle.table.specs.Table.{Holds}
-use Rattle.judging.specs.Check.{asked}
+use Rattle.judging.specs.Check.{Asked, asked}
 use Rattle.table.specs.declared.Counts.{Counts}
-use Rattle.judging.specs.declared.Asked.{Asked}
 use Rattle.reasoning.specs.Whys.{limit_as, why_as}
 use Rattle.reasoning.specs.declared.Why.{Why}
 use Rattle.apply.specs.Applied.{Stands}
 use Rattle.table.proofs.HoldLaws.{prefix-is}
 use Rattle.standing.specs.Standing.{formula_in, first_for, second_for}
-use Rattle.explaining.specs.Explaining.{limit_answer, reason_answer, answer_there, answer_on, looks, refuses, heard_of, heard_for, heard_in, answer_for, first_after, second_after, Explains, why_back}
+use Rattle.explaining.specs.Explaining.{unfit_answer, limit_answer, reason_answer, answer_there, answer_on, looks, refuses, heard_of, heard_for, heard_in, answer_for, first_after, second_after, Explains, why_back}
 use Rattle.explaining.specs.declared.explains.ReasonAnswer.{ReasonAnswer}
 use Rattle.explaining.specs.declared.explains.Reasoned.{Reasoned}
 
@@ -59,19 +59,15 @@ module _ (a b : List ℕ) (c : Counts) (v E : ℕ) (s : Asked) (q : s ≡ asked 
   unfolding answer_for first_after second_after
   refused x h r e = record { given = e ∙ rw h; first = rw h; second = rw h }
 
-  pub explains-length : s ≡ said.WrongLength → (r : Reasoned) → r ≡ record { answer = says.Length; counts = c } → Explains a b c v E r a b
+  pub explains-unfit : (u : Unfit) → s ≡ Err u → (r : Reasoned) → r ≡ record { answer = unfit_answer u; counts = c } → Explains a b c v E r a b
   unfolding heard_in heard_for
-  explains-length k r e = refused says.Length (ap (λ x. heard_for x E) (sym q ∙ k)) r e
+  explains-unfit u k r e = refused (unfit_answer u) (ap (λ x. heard_for x E) (sym q ∙ k)) r e
 
-  pub explains-malformed : s ≡ said.Malformed → (r : Reasoned) → r ≡ record { answer = says.Malformed; counts = c } → Explains a b c v E r a b
-  unfolding heard_in heard_for
-  explains-malformed k r e = refused says.Malformed (ap (λ x. heard_for x E) (sym q ∙ k)) r e
-
-  pub explains-allowance : s ≡ said.Given → 1000 < E → (r : Reasoned) → r ≡ record { answer = says.Allowance; counts = c } → Explains a b c v E r a b
+  pub explains-allowance : s ≡ Ok tt → 1000 < E → (r : Reasoned) → r ≡ record { answer = says.Allowance; counts = c } → Explains a b c v E r a b
   unfolding heard_in heard_for heard_of
   explains-allowance k l r e = refused says.Allowance (ap (λ x. heard_for x E) (sym q ∙ k) ∙ ap heard_of (lt-leb E 1000 l)) r e
 
-  pub explains-given : s ≡ said.Given → E ≤ 1000 → (x : ReasonAnswer) (a' b' : List ℕ)
+  pub explains-given : s ≡ Ok tt → E ≤ 1000 → (x : ReasonAnswer) (a' b' : List ℕ)
       → (x ≡ answer_on (formula_in a b c) v E) × Stands (formula_in a b c) c.second a' b'
       → (r : Reasoned) → r ≡ record { answer = x; counts = c } → Explains a b c v E r a' b'
   unfolding heard_in heard_for heard_of answer_for first_after second_after first_for second_for

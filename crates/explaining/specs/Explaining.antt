@@ -1,15 +1,15 @@
 -- What a question after a variable gives and leaves (request 2, "Say why this one is left"; document 01, "Numbers given back"): the answer,
 -- the record and both tables after it, for any two tables, any record, any variable and any allowance.
 -- Assumes nothing.
-use Rattle.std.specs.Prelude.{◌≡◌, Bool, true, false, List, ℕ, leb}
-use Rattle.judging.specs.declared.Asked.TheVariants as said
+use Rattle.std.specs.Prelude.{◌≡◌, Bool, true, false, List, ℕ, leb, Ok, Err}
+use Rattle.judging.specs.declared.Unfit.TheVariants as said
+use Rattle.judging.specs.declared.Unfit.{Unfit}
 use Rattle.reasoning.specs.declared.Why.TheVariants as came
 use Rattle.explaining.specs.declared.explains.ReasonAnswer.TheVariants as says
 use Rattle.meaning.specs.Formula.{Formula, mentions}
 use Rattle.reasons.specs.Reason.{Limit, of_variables, of_clauses, of_literals, Reason, verdict, next_entry, own_entry, too_far_right, not_lighter, between, too_heavy, over_limit, reason_of}
-use Rattle.judging.specs.Check.{asked}
+use Rattle.judging.specs.Check.{Asked, asked}
 use Rattle.table.specs.declared.Counts.{Counts}
-use Rattle.judging.specs.declared.Asked.{Asked}
 use Rattle.reasoning.specs.declared.Why.{Why}
 use Rattle.standing.specs.Standing.{formula_in, first_for, second_for}
 use Rattle.explaining.specs.declared.explains.ReasonAnswer.{ReasonAnswer}
@@ -67,10 +67,14 @@ unfoldable pub heard_of : Bool → Heard
 heard_of true = looks
 heard_of false = refuses says.Allowance
 
+-- the answer to a call that is refused for the tables
+abbrev pub unfit_answer : Unfit → ReasonAnswer
+unfit_answer said.WrongLength = says.Length
+unfit_answer said.Malformed = says.Malformed
+
 unfoldable pub heard_for : Asked → ℕ → Heard
-heard_for said.Given E = heard_of (leb E 1000)
-heard_for said.WrongLength E = refuses says.Length
-heard_for said.Malformed E = refuses says.Malformed
+heard_for (Ok u) E = heard_of (leb E 1000)
+heard_for (Err u) E = refuses (unfit_answer u)
 
 unfoldable pub heard_in : List ℕ → List ℕ → Counts → ℕ → Heard
 heard_in first second c E = heard_for (asked first second c) E

@@ -7,14 +7,16 @@ ghost use Rattle.index.specs.Build.{HeldWell};
 ghost use Rattle.apply.specs.Applied.{Lends, Lent, Stands};
 ghost use Rattle.explaining.specs.Explaining.{reason_number, why_back, answer_on, Explains};
 
-use judging::{Asked, literals_answer};
-use reasoning::{Why, explain, has_variable};
+use judging::{Unfit, literals_answer};
+use permits::has_variable;
+use reasoning::{Why, explain};
 use table::{Counts, zero};
 
 // What comes of a call. The reasons: the formula has that verdict; the run's next entry; the entry of the step on the variable, which
 // counts; the lowest clause with a variable too far right, its leftmost such variable, and the first universal right of the asked one; the
 // weight, and the weight after resolving; the existential and the universal after it that block a universal; the weight, and the weight
 // after expanding; the limit that the result would pass first. Then the refusals.
+// Kept: no Result, since an answer and a record come back with every call, a refusal too, and the statements speak of both.
 #[derive(Clone, Copy)]
 pub enum ReasonAnswer {
     True,
@@ -36,25 +38,26 @@ pub enum ReasonAnswer {
 
 impl ReasonAnswer {
     // Document 01's number of a verdict or a refusal; 0 for the other reasons.
+    #[tactic(auto, unfolding(crate::specs::Explaining::reason_number))]
     pub fn number(self) -> u8
         ensures { result ≡ reason_number self }
     {
         match self {
             ReasonAnswer::True => 20,
             ReasonAnswer::False => 21,
-            ReasonAnswer::NextEntry(_) => 0,
-            ReasonAnswer::OwnEntry(_) => 0,
-            ReasonAnswer::TooFarRight(_, _, _) => 0,
-            ReasonAnswer::NotLighter(_, _) => 0,
-            ReasonAnswer::Between(_, _) => 0,
-            ReasonAnswer::TooHeavy(_, _) => 0,
-            ReasonAnswer::OverVariables => 0,
-            ReasonAnswer::OverClauses => 0,
-            ReasonAnswer::OverLiterals => 0,
             ReasonAnswer::Length => 1,
             ReasonAnswer::Malformed => 2,
             ReasonAnswer::Allowance => 13,
             ReasonAnswer::NotPermitted => 10,
+            ReasonAnswer::NextEntry(_)
+            | ReasonAnswer::OwnEntry(_)
+            | ReasonAnswer::TooFarRight(_, _, _)
+            | ReasonAnswer::NotLighter(_, _)
+            | ReasonAnswer::Between(_, _)
+            | ReasonAnswer::TooHeavy(_, _)
+            | ReasonAnswer::OverVariables
+            | ReasonAnswer::OverClauses
+            | ReasonAnswer::OverLiterals => 0,
         }
     }
 }
@@ -66,32 +69,47 @@ pub struct Reasoned {
     pub counts: Counts,
 }
 
+impl From<Unfit> for ReasonAnswer {
+    ghost use Rattle.std.specs.Prelude.{◌≡◌};
+    ghost use Rattle.explaining.specs.Explaining.{unfit_answer};
+
+    ghost from_gives = { λ unfit answer. answer ≡ unfit_answer unfit };
+
+    fn from(unfit: Unfit) -> ReasonAnswer {
+        match unfit {
+            Unfit::WrongLength => ReasonAnswer::Length,
+            Unfit::Malformed => ReasonAnswer::Malformed,
+        }
+    }
+}
+
 // What is given back.
 fn give_back(answer: ReasonAnswer, c: Counts) -> Reasoned
     ensures { result ≡ record { answer = answer; counts = c } }
 {
-    Reasoned {
-        answer: answer,
-        counts: c,
-    }
+    Reasoned { answer, counts: c }
 }
 
-// The answer for a reason.
-fn answer_for(why: Why) -> ReasonAnswer
-    ensures { result ≡ why_back why }
-{
-    match why {
-        Why::True => ReasonAnswer::True,
-        Why::False => ReasonAnswer::False,
-        Why::NextEntry(e) => ReasonAnswer::NextEntry(e),
-        Why::OwnEntry(e) => ReasonAnswer::OwnEntry(e),
-        Why::TooFarRight(i, y, u) => ReasonAnswer::TooFarRight(i, y, u),
-        Why::NotLighter(m, n) => ReasonAnswer::NotLighter(m, n),
-        Why::Between(e, u) => ReasonAnswer::Between(e, u),
-        Why::TooHeavy(m, n) => ReasonAnswer::TooHeavy(m, n),
-        Why::OverVariables => ReasonAnswer::OverVariables,
-        Why::OverClauses => ReasonAnswer::OverClauses,
-        Why::OverLiterals => ReasonAnswer::OverLiterals,
+impl From<Why> for ReasonAnswer {
+    ghost use Rattle.explaining.specs.Explaining.{why_back};
+
+    ghost from_gives = { λ why answer. answer ≡ why_back why };
+
+    #[tactic(auto, unfolding(crate::specs::Explaining::why_back))]
+    fn from(why: Why) -> Self {
+        match why {
+            Why::True => ReasonAnswer::True,
+            Why::False => ReasonAnswer::False,
+            Why::NextEntry(e) => ReasonAnswer::NextEntry(e),
+            Why::OwnEntry(e) => ReasonAnswer::OwnEntry(e),
+            Why::TooFarRight(i, y, u) => ReasonAnswer::TooFarRight(i, y, u),
+            Why::NotLighter(m, n) => ReasonAnswer::NotLighter(m, n),
+            Why::Between(e, u) => ReasonAnswer::Between(e, u),
+            Why::TooHeavy(m, n) => ReasonAnswer::TooHeavy(m, n),
+            Why::OverVariables => ReasonAnswer::OverVariables,
+            Why::OverClauses => ReasonAnswer::OverClauses,
+            Why::OverLiterals => ReasonAnswer::OverLiterals,
+        }
     }
 }
 
@@ -109,8 +127,7 @@ fn reason_at(
 {
     let n = c.variables;
     if has_variable(&t[..n], variable) {
-        let why = explain(t, c, spare, variable, allowance);
-        return answer_for(why);
+        return explain(t, c, spare, variable, allowance).into();
     }
     zero(spare);
     ReasonAnswer::NotPermitted
@@ -144,18 +161,13 @@ pub fn reason(
     ensures { Explains first.old second.old c variable allowance result first.new second.new }
 {
     match literals_answer(first, second, c) {
-        Asked::Given => {
+        Ok(()) => {
             if 1000 < allowance {
                 return give_back(ReasonAnswer::Allowance, c);
             }
             let answer = reason_between(first, second, c, variable, allowance);
-            return give_back(answer, c);
+            give_back(answer, c)
         }
-        Asked::WrongLength => {
-            return give_back(ReasonAnswer::Length, c);
-        }
-        Asked::Malformed => {
-            return give_back(ReasonAnswer::Malformed, c);
-        }
+        Err(unfit) => give_back(unfit.into(), c),
     }
 }

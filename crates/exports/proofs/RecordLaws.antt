@@ -11,11 +11,11 @@ use borrow.Author.Tests.{le-leb, lt-leb, eq-eqb, ne_eqb}
 use native.Mathlib.Omega.{arith}
 use Rattle.meaning.specs.Formula.{Formula}
 use Rattle.table.specs.Lent.{named, right_lengths}
-use Rattle.judging.specs.Check.{asked, asked_number, literals_given, literals_part}
+use Rattle.judging.specs.Check.{Asked, asked, asked_number, literals_given, literals_part}
 use Rattle.table.specs.Table.{decode, all_literals}
 use Rattle.table.specs.declared.Counts.{Counts}
-use Rattle.judging.specs.declared.Asked.{Asked}
-use Rattle.judging.specs.declared.Asked.TheVariants.{Given, WrongLength, Malformed}
+use Rattle.judging.specs.declared.Unfit.TheVariants.{WrongLength, Malformed}
+use Rattle.std.specs.Prelude.{Ok, Err}
 use Rattle.table.proofs.HoldLaws.{literals-are}
 use Rattle.judging.proofs.LiteralLaws.{given_holds, given-part}
 use Rattle.exports.specs.Records.{side_known, counts_in, record_of, side_number, no_part, part_of, part_in}
@@ -53,25 +53,25 @@ module _ (first second : List ℕ) where
   number-side e d = rw (eq-eqb (length first) 11261 e, eq-eqb (length second) 11261 d)
 
 -- The literals --------------------------------------------------------------------------------------------------
-given-of-zero : (x : Asked) → asked_number x ≡ 0 → Given ≡ x
+given-of-zero : (x : Asked) → asked_number x ≡ 0 → Ok tt ≡ x
 unfolding asked_number
-given-of-zero Given e = refl
-given-of-zero WrongLength e = absurd (omega arith)
-given-of-zero Malformed e = absurd (omega arith)
+given-of-zero (Ok u) e = refl
+given-of-zero (Err WrongLength) e = absurd (omega arith)
+given-of-zero (Err Malformed) e = absurd (omega arith)
 
 no-part : (x : Asked) (c : Counts) → (asked_number x ≡ 0 → ⊥) → part_of x c ≡ no_part
 unfolding asked_number part_of
-no-part Given c e = absurd (e refl)
-no-part WrongLength c e = refl
-no-part Malformed c e = refl
+no-part (Ok u) c e = absurd (e refl)
+no-part (Err WrongLength) c e = refl
+no-part (Err Malformed) c e = refl
 
 no-literals : (x : Asked) → (asked_number x ≡ 0 → ⊥) → (φ : Formula) → literals_given x φ ≡ []
 unfolding asked_number literals_given
-no-literals Given e φ = absurd (e refl)
-no-literals WrongLength e φ = refl
-no-literals Malformed e φ = refl
+no-literals (Ok u) e φ = absurd (e refl)
+no-literals (Err WrongLength) e φ = refl
+no-literals (Err Malformed) e φ = refl
 
-given-place : (x : Asked) → Given ≡ x → (c : Counts) → (cond c.second 1 0 ∷ (3070 ∷ (c.literals ∷ []))) ≡ part_of x c
+given-place : (x : Asked) → Ok tt ≡ x → (c : Counts) → (cond c.second 1 0 ∷ (3070 ∷ (c.literals ∷ []))) ≡ part_of x c
 unfolding part_of
 given-place x e c = rw (← e)
 
@@ -109,7 +109,7 @@ module _ (a b l : List ℕ) where
     known-part q =
         record { place = rw (side-known l h, ← r) (ap (λ (x : ℕ). x ∷ (3070 ∷ (c.literals ∷ []))) (byte-is c.second) ∙ given-place (asked a b c) given c); stands = rw (side-known l h, ← r, byte-back c.second) (stood ∙ sym (given-part a b c (asked a b c) refl (sym given))) }
       where
-        given : Given ≡ asked a b c
+        given : Ok tt ≡ asked a b c
         given = given-of-zero (asked a b c) (sym e ∙ q)
 
         stood : take c.literals (drop 3070 (cond c.second b a)) ≡ all_literals (decode (named a b c) c).clauses

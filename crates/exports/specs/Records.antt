@@ -1,11 +1,10 @@
 -- The record as it crosses to C: five 64-bit numbers. The first four are the counts and which table holds the formula; the fifth is
 -- given back: an offset, or how many bytes, steps or entries.
 -- Assumes nothing.
-use Rattle.std.specs.Prelude.{ℕ, Bool, cond, List, [], ◌∷◌, eqb, leb, get_or, set, take, drop}
+use Rattle.std.specs.Prelude.{ℕ, Bool, cond, List, [], ◌∷◌, eqb, leb, get_or, set, take, drop, Ok, Err}
 use Rattle.table.specs.Lent.{right_lengths}
 use Rattle.table.specs.declared.Counts.{Counts}
-use Rattle.judging.specs.declared.Asked.{Asked}
-use Rattle.judging.specs.declared.Asked.TheVariants.{Given, WrongLength, Malformed}
+use Rattle.judging.specs.Check.{Asked}
 
 -- the fourth number is 0 for the first table and 1 for the second
 unfoldable pub side_known : List ℕ → Bool
@@ -30,9 +29,8 @@ no_part = 0 ∷ (0 ∷ (0 ∷ []))
 
 -- "the used part of whichever lent table it ended in; with refusal 1 or 2, an empty part of the first"
 unfoldable pub part_of : Asked → Counts → List ℕ
-part_of Given c = cond c.second 1 0 ∷ (3070 ∷ (c.literals ∷ []))
-part_of WrongLength c = no_part
-part_of Malformed c = no_part
+part_of (Ok u) c = cond c.second 1 0 ∷ (3070 ∷ (c.literals ∷ []))
+part_of (Err u) c = no_part
 
 -- what stands there
 unfoldable pub part_in : List ℕ → List ℕ → List ℕ → List ℕ

@@ -21,10 +21,8 @@ pub extern "C" fn rimhlada_read(
     ensures { ReadCall text.now first.old second.old result first.new second.new counts.new }
 {
     let x = rimhlada::read(text, first, second);
-    let d = x.counts;
-    let answer = x.answer;
-    give(counts, d, x.offset);
-    answer.number()
+    give(counts, x.counts, x.offset);
+    x.answer.number()
 }
 
 // Writes the formula as text.
@@ -37,15 +35,13 @@ pub extern "C" fn rimhlada_write(
 ) -> u8
     ensures { WriteCall first.now second.now counts.old out.old result counts.new out.new }
 {
-    if 1 < counts[3] {
+    let Some(c) = counts_in(counts) else {
         counts[4] = 0;
         return side_number(first, second);
-    }
-    let c = counts_in(counts);
+    };
     let x = rimhlada::write(first, second, c, out);
-    let answer = x.answer;
     give(counts, c, x.bytes);
-    answer.number()
+    x.answer.number()
 }
 
 // Where the literals stand: which table, from where on, how many.
@@ -58,11 +54,10 @@ pub extern "C" fn rimhlada_literals(
 )
     ensures { LiteralsCall first.now second.now counts.now part.new }
 {
-    if 1 < counts[3] {
+    let Some(c) = counts_in(counts) else {
         *part = [0, 0, 0];
         return;
-    }
-    let c = counts_in(counts);
+    };
     let number = rimhlada::literals_number(first, second, c);
     if number != 0 {
         *part = [0, 0, 0];
@@ -77,10 +72,9 @@ pub extern "C" fn rimhlada_literals(
 pub extern "C" fn rimhlada_literals_number(first: &[u16], second: &[u16], counts: &[u64; 5]) -> u8
     ensures { result ≡ number_asked first.now second.now counts.now }
 {
-    if 1 < counts[3] {
+    let Some(asked) = counts_in(counts) else {
         return side_number(first, second);
-    }
-    let asked = counts_in(counts);
+    };
     rimhlada::literals_number(first, second, asked)
 }
 
@@ -94,16 +88,13 @@ pub extern "C" fn rimhlada_step(
 ) -> u8
     ensures { StepCall first.old second.old counts.old entry result first.new second.new counts.new }
 {
-    if 1 < counts[3] {
+    let Some(c) = counts_in(counts) else {
         counts[4] = 0;
         return side_number(first, second);
-    }
-    let c = counts_in(counts);
+    };
     let x = rimhlada::step(first, second, c, entry);
-    let d = x.counts;
-    let answer = x.answer;
-    give(counts, d, 0);
-    answer.number()
+    give(counts, x.counts, 0);
+    x.answer.number()
 }
 
 // A run with an allowance, a limit of steps and a log.
@@ -118,16 +109,13 @@ pub extern "C" fn rimhlada_run(
 ) -> u8
     ensures { RunCall first.old second.old counts.old allowance limit log.old result first.new second.new counts.new log.new }
 {
-    if 1 < counts[3] {
+    let Some(c) = counts_in(counts) else {
         counts[4] = 0;
         return side_number(first, second);
-    }
-    let c = counts_in(counts);
+    };
     let x = rimhlada::run(first, second, c, allowance as usize, limit as usize, log);
-    let d = x.counts;
-    let answer = x.answer;
-    give(counts, d, x.steps);
-    answer.number()
+    give(counts, x.counts, x.steps);
+    x.answer.number()
 }
 
 // The replay of a log.
@@ -140,16 +128,13 @@ pub extern "C" fn rimhlada_replay(
 ) -> u8
     ensures { ReplayCall first.old second.old counts.old log.now result first.new second.new counts.new }
 {
-    if 1 < counts[3] {
+    let Some(c) = counts_in(counts) else {
         counts[4] = 0;
         return side_number(first, second);
-    }
-    let c = counts_in(counts);
+    };
     let x = rimhlada::replay(first, second, c, log);
-    let d = x.counts;
-    let answer = x.answer;
-    give(counts, d, x.applied);
-    answer.number()
+    give(counts, x.counts, x.applied);
+    x.answer.number()
 }
 
 // Why a variable is left: the kind of the reason is given with the record, the values that it names are put into the three numbers.
@@ -164,17 +149,14 @@ pub extern "C" fn rimhlada_reason(
 ) -> u8
     ensures { ReasonCall first.old second.old counts.old variable allowance result first.new second.new counts.new values.new }
 {
-    if 1 < counts[3] {
+    let Some(c) = counts_in(counts) else {
         counts[4] = 0;
         *values = [0, 0, 0];
         return side_number(first, second);
-    }
-    let c = counts_in(counts);
+    };
     let x = rimhlada::reason(first, second, c, variable as usize, allowance as usize);
-    let d = x.counts;
-    let answer = x.answer;
-    let kind = rimhlada::reason_kind(answer);
-    give(counts, d, kind);
-    rimhlada::reason_values(values, answer);
-    answer.number()
+    let kind = rimhlada::reason_kind(x.answer);
+    give(counts, x.counts, kind);
+    rimhlada::reason_values(values, x.answer);
+    x.answer.number()
 }

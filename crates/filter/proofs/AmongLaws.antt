@@ -13,8 +13,8 @@ use Rattle.meaning.proofs.Lists.{all-le, any_append, same_self}
 use Rattle.table.specs.Table.{decode, with_clause, with_new_clause, Holds}
 use Rattle.table.specs.Answer.{Became}
 use Rattle.table.specs.declared.Counts.{Counts}
-use Rattle.table.specs.declared.Pushed.{Pushed}
-use Rattle.table.specs.declared.Pushed.TheVariants.{Done}
+use Rattle.std.specs.Prelude.{Option}
+use Rattle.std.specs.Prelude.{Some}
 use Rattle.table.proofs.AnswerLaws.{add-new, became-done}
 use Rattle.table.proofs.HoldLaws.{count-clauses}
 use Rattle.table.proofs.DecodeLaws.{decode-holds, holds-decoded}
@@ -61,11 +61,11 @@ module _ {φ : Formula} {others : List (List ℕ)} {t : List ℕ} {c : Counts} (
   all_one = rw (decode-holds φ t c h) at k.every
 
   -- a clause that is none of the others is new
-  pub among-new : any_of (same x) others ≡ false → (r : Pushed) (t' : List ℕ) → Became φ (with_clause φ x) c.second r t' → Became φ (with_new_clause φ x) c.second r t'
+  pub among-new : any_of (same x) others ≡ false → (r : Option Counts) (t' : List ℕ) → Became φ (with_clause φ x) c.second r t' → Became φ (with_new_clause φ x) c.second r t'
   among-new out r t' b = add-new h x t' r (not_there (one_of others) x φ.clauses all_one (unfold one_of in out)) b
 
   -- it comes, and is one of the others
-  pub among-more : (s : Bool) (r : Pushed) (t' : List ℕ) → Became φ (with_new_clause φ x) s r t' → (d : Counts) → r ≡ Done d → Among (others ++ (x ∷ [])) t' d
+  pub among-more : (s : Bool) (r : Option Counts) (t' : List ℕ) → Became φ (with_new_clause φ x) s r t' → (d : Counts) → r ≡ Some d → Among (others ++ (x ∷ [])) t' d
   among-more s r t' b d q =
       record {
         every =

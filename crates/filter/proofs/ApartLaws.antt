@@ -10,8 +10,8 @@ use Rattle.meaning.specs.Formula.{Formula}
 use Rattle.table.specs.Table.{decode, with_new_clause, Holds}
 use Rattle.table.specs.Answer.{Became}
 use Rattle.table.specs.declared.Counts.{Counts}
-use Rattle.table.specs.declared.Pushed.{Pushed}
-use Rattle.table.specs.declared.Pushed.TheVariants.{Done}
+use Rattle.std.specs.Prelude.{Option}
+use Rattle.std.specs.Prelude.{Some}
 use Rattle.meaning.proofs.Basics.{or-il, or-ir, or_elim}
 use Rattle.meaning.proofs.Lists.{all-le, any_append, same_self}
 use Rattle.table.proofs.AnswerLaws.{became-done}
@@ -62,7 +62,7 @@ apart_none {t} {f} {c} k =
 
 module _ {others : List (List ℕ)} {t f : List ℕ} {c : Counts} (k : CoversBut others t c f) where
   -- the same counts, by their answer
-  pub apart-same : (d : Counts) → Done c ≡ Done d → CoversBut others t d f
+  pub apart-same : (d : Counts) → Some c ≡ Some d → CoversBut others t d f
   apart-same d e = subst (λ (x : Counts). CoversBut others t x f) (cc) k
 
   -- one of the others more
@@ -79,7 +79,7 @@ module _ {φ : Formula} {others : List (List ℕ)} {t f : List ℕ} {c : Counts}
   unfolding known
   apart-new out b e n = not_there (known others f) x φ.clauses all_known (rw (out, ← e, n))
 
-  module _ (s : Bool) (r : Pushed) (t' : List ℕ) (b : Became φ (with_new_clause φ x) s r t') (d : Counts) (q : r ≡ Done d) where
+  module _ (s : Bool) (r : Option Counts) (t' : List ℕ) (b : Became φ (with_new_clause φ x) s r t') (d : Counts) (q : r ≡ Some d) where
     after : (g : List (List ℕ)) (f' : List ℕ) → all_of (known g f') φ.clauses ≡ true → known g f' x ≡ true → all_of (known g f') (decode t' d).clauses ≡ true
     after g f' a e =
         rw (decode-holds (with_new_clause φ x) t' d (became-done φ (with_new_clause φ x) s r t' b d q))

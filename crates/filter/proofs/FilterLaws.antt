@@ -14,8 +14,8 @@ use Rattle.stamps.specs.Stamp.{with_stamp, stamped}
 use Rattle.table.specs.Table.{with_new_clause, Holds}
 use Rattle.table.specs.Answer.{Became}
 use Rattle.table.specs.declared.Counts.{Counts}
-use Rattle.table.specs.declared.Pushed.{Pushed}
-use Rattle.table.specs.declared.Pushed.TheVariants.{Done, Full}
+use Rattle.std.specs.Prelude.{Option}
+use Rattle.std.specs.Prelude.{Some, None}
 use Rattle.meaning.proofs.Lists.{all_snoc}
 use Rattle.stamps.proofs.StampLaws.{stamp-length, stamp-own, every-stays, every-next, not_there}
 use Rattle.table.proofs.AnswerLaws.{became-done}
@@ -72,8 +72,8 @@ module _ {φ : Formula} {t : List ℕ} {c : Counts} (h : Holds φ t c) where
     covers_new b e n = not_there (stamped f) x φ.clauses every-is (sym e ∙ n)
 
     -- with its stamp, the filter covers the table after it
-    pub covers_more : (s : Bool) (r : Pushed) (t' f' : List ℕ) → Became φ (with_new_clause φ x) s r t' → f' ≡ with_stamp f x
-        → (d : Counts) → r ≡ Done d → Covers t' d f'
+    pub covers_more : (s : Bool) (r : Option Counts) (t' f' : List ℕ) → Became φ (with_new_clause φ x) s r t' → f' ≡ with_stamp f x
+        → (d : Counts) → r ≡ Some d → Covers t' d f'
     covers_more s r t' f' b e d q =
         rw e
         (record {
@@ -85,9 +85,9 @@ module _ {φ : Formula} {t : List ℕ} {c : Counts} (h : Holds φ t c) where
         })
 
 -- no answer that it is done
-pub covers-full : {t f : List ℕ} (d : Counts) → Full ≡ Done d → Covers t d f
+pub covers-full : {t f : List ℕ} (d : Counts) → None ≡ Some d → Covers t d f
 covers-full d e = let z : ◌≡◌ {A = ℕ} 0 1 = cc in absurd (omega arith)
 
 -- the same counts, by their answer
-pub covers-same : {t : List ℕ} {c : Counts} {f : List ℕ} → Covers t c f → (d : Counts) → Done c ≡ Done d → Covers t d f
+pub covers-same : {t : List ℕ} {c : Counts} {f : List ℕ} → Covers t c f → (d : Counts) → Some c ≡ Some d → Covers t d f
 covers-same {t} {c} {f} k d e = subst (λ (x : Counts). Covers t x f) (cc) k

@@ -4,7 +4,7 @@
 // A filter may also have the stamps of some clauses of the table only. It then serves a clause that is none of the others.
 #![tactic(auto)]
 
-ghost use Rattle.std.specs.Prelude.{◌≡◌, ℕ, true, false, List, length};
+ghost use Rattle.std.specs.Prelude.{◌≡◌, ℕ, true, false, List, length, Some};
 ghost use Rattle.meaning.specs.Lists.{any_of, same};
 ghost use Rattle.meaning.specs.Formula.{Formula};
 ghost use Rattle.meaning.specs.WellFormed.{good_prefix};
@@ -15,7 +15,7 @@ ghost use Rattle.table.specs.Pending.{Pends, Pended};
 ghost use Rattle.filter.specs.Filter.{Covers, CoversBut};
 
 use stamps::{has_stamp, stamp};
-use table::{Counts, Pending, Pushed, add_clause, clause_at, push_clause, tidy_in};
+use table::{Counts, Pending, Ranks, Scratch, add_clause, clause_at, push_clause, tidy_in};
 
 // Puts the stamps of all clauses of the table into the filter.
 pub fn cover(t: &[u16], c: Counts, filter: &mut [u64])
@@ -23,19 +23,17 @@ pub fn cover(t: &[u16], c: Counts, filter: &mut [u64])
     requires filter_len { length filter.old ≡ 8 }
     ensures { Covers t.now c filter.new }
 {
-    let mut i = 0;
-    while i < c.clauses {
+    for i in 0..c.clauses {
         stamp(filter, clause_at(t, c, i));
-        i += 1;
     }
 }
 
 // The clause after the others, unless an equal one is there.
-fn add_filtered(t: &mut [u16], c: Counts, clause: &[u16], filter: &mut [u64]) -> Pushed
+fn add_filtered(t: &mut [u16], c: Counts, clause: &[u16], filter: &mut [u64]) -> Option<Counts>
     requires held { Held t.old c }
     requires covers { Covers t.old c filter.old }
     ensures became { (φ : Formula) → Holds φ t.old c → Became φ (with_new_clause φ clause.now) c.second result t.new }
-    ensures covers_2 { (d : Counts) → result ≡ Pushed.Done d → Covers t.new d filter.new }
+    ensures covers_2 { (d : Counts) → result ≡ Some d → Covers t.new d filter.new }
 {
     if stamp(filter, clause) {
         return add_clause(t, c, clause);
@@ -47,28 +45,25 @@ fn add_filtered(t: &mut [u16], c: Counts, clause: &[u16], filter: &mut [u64]) ->
 pub fn close_filtered(
     t: &mut [u16],
     c: Counts,
-    scratch: &mut [u16],
+    scratch: &mut Scratch,
     p: Pending,
-    ranks: &[u16],
+    ranks: &Ranks,
     filter: &mut [u64],
-) -> Pushed
+) -> Option<Counts>
     requires held { Held t.old c }
     requires pended { Pended scratch.old p }
-    requires ranks_len { length ranks.now ≡ 1024 }
     requires covers { Covers t.old c filter.old }
     ensures became { (φ : Formula) (raw : List ℕ) → Holds φ t.old c → good_prefix φ.prefix ≡ true → ranks.now ≡ ranks_of φ.prefix → Pends raw scratch.old p → Became φ (with_raw φ raw) c.second result t.new }
-    ensures covers_2 { (d : Counts) → result ≡ Pushed.Done d → Covers t.new d filter.new }
+    ensures covers_2 { (d : Counts) → result ≡ Some d → Covers t.new d filter.new }
 {
-    let q = tidy_in(scratch, p, ranks);
-    if q.both {
-        return Pushed::Done(c);
+    match tidy_in(scratch, p, ranks) {
+        Some(m) => add_filtered(t, c, &scratch[..m], filter),
+        None => Some(c),
     }
-    let m = q.size;
-    add_filtered(t, c, &scratch[..m], filter)
 }
 
 // A clause that is none of those whose stamps may be missing: after the others, unless an equal one is there.
-pub fn add_apart(t: &mut [u16], c: Counts, clause: &[u16], filter: &[u64]) -> Pushed
+pub fn add_apart(t: &mut [u16], c: Counts, clause: &[u16], filter: &[u64]) -> Option<Counts>
     requires held { Held t.old c }
     requires filter_len { length filter.now ≡ 8 }
     ensures { (φ : Formula) (others : List (List ℕ)) → Holds φ t.old c → CoversBut others t.old c filter.now → any_of (same clause.now) others ≡ false → Became φ (with_new_clause φ clause.now) c.second result t.new }
@@ -80,11 +75,11 @@ pub fn add_apart(t: &mut [u16], c: Counts, clause: &[u16], filter: &[u64]) -> Pu
 }
 
 // The clause after the others, unless an equal one is there; any of them may be equal. Its stamp goes into the filter.
-fn add_stamped(t: &mut [u16], c: Counts, clause: &[u16], filter: &mut [u64]) -> Pushed
+fn add_stamped(t: &mut [u16], c: Counts, clause: &[u16], filter: &mut [u64]) -> Option<Counts>
     requires held { Held t.old c }
     requires filter_len { length filter.old ≡ 8 }
     ensures became { (φ : Formula) → Holds φ t.old c → Became φ (with_new_clause φ clause.now) c.second result t.new }
-    ensures by_index { (others : List (List ℕ)) (d : Counts) → CoversBut others t.old c filter.old → result ≡ Pushed.Done d → CoversBut others t.new d filter.new }
+    ensures by_index { (others : List (List ℕ)) (d : Counts) → CoversBut others t.old c filter.old → result ≡ Some d → CoversBut others t.new d filter.new }
 {
     stamp(filter, clause);
     add_clause(t, c, clause)
@@ -94,22 +89,19 @@ fn add_stamped(t: &mut [u16], c: Counts, clause: &[u16], filter: &mut [u64]) -> 
 pub fn close_stamped(
     t: &mut [u16],
     c: Counts,
-    scratch: &mut [u16],
+    scratch: &mut Scratch,
     p: Pending,
-    ranks: &[u16],
+    ranks: &Ranks,
     filter: &mut [u64],
-) -> Pushed
+) -> Option<Counts>
     requires held { Held t.old c }
     requires pended { Pended scratch.old p }
-    requires ranks_len { length ranks.now ≡ 1024 }
     requires filter_len { length filter.old ≡ 8 }
     ensures became { (φ : Formula) (raw : List ℕ) → Holds φ t.old c → good_prefix φ.prefix ≡ true → ranks.now ≡ ranks_of φ.prefix → Pends raw scratch.old p → Became φ (with_raw φ raw) c.second result t.new }
-    ensures by_index { (others : List (List ℕ)) (d : Counts) → CoversBut others t.old c filter.old → result ≡ Pushed.Done d → CoversBut others t.new d filter.new }
+    ensures by_index { (others : List (List ℕ)) (d : Counts) → CoversBut others t.old c filter.old → result ≡ Some d → CoversBut others t.new d filter.new }
 {
-    let q = tidy_in(scratch, p, ranks);
-    if q.both {
-        return Pushed::Done(c);
+    match tidy_in(scratch, p, ranks) {
+        Some(m) => add_stamped(t, c, &scratch[..m], filter),
+        None => Some(c),
     }
-    let m = q.size;
-    add_stamped(t, c, &scratch[..m], filter)
 }

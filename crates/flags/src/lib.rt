@@ -5,6 +5,7 @@ ghost use Rattle.std.specs.Prelude.{◌≡◌, ℕ, ◌+◌, ◌*◌, ◌/◌, �
 ghost use Rattle.flags.specs.Flags.{flag, raised};
 
 // Raises the flag of a number.
+#[tactic(auto, unfolding(crate::specs::Flags::raised))]
 pub fn raise(words: &mut [u64], j: usize)
     requires { j < 64 * length words.old }
     ensures { words.new ≡ raised words.old j }
@@ -14,6 +15,7 @@ pub fn raise(words: &mut [u64], j: usize)
 }
 
 // Whether the flag of a number is raised.
+#[tactic(auto, unfolding(crate::specs::Flags::flag))]
 pub fn is_raised(words: &[u64], j: usize) -> bool
     requires { j < 64 * length words.now }
     ensures { result ≡ flag words.now j }
@@ -43,6 +45,7 @@ fn seek(words: &[u64], from: usize, to: usize) -> usize
     ensures by_index { (k : ℕ) → from ≤ k → k < result → flag words.now k ≡ false }
 {
     let mut i = from;
+    // Kept: a turn goes on by all zeros of a word, and a range of words would have to be cut at both ends.
     while i < to {
         let bit = i % 64;
         let zeros = zeros_from(words[i / 64], bit);
@@ -64,10 +67,8 @@ pub fn next_raised(words: &[u64], from: usize, to: usize) -> usize
     ensures result_value { result < to → flag words.now result ≡ true }
     ensures by_index { (k : ℕ) → from ≤ k → k < result → flag words.now k ≡ false }
 {
-    if from < to {
-        if is_raised(words, from) {
-            return from;
-        }
+    if from < to && is_raised(words, from) {
+        return from;
     }
     seek(words, from, to)
 }

@@ -1,49 +1,29 @@
--- The loops and branches of src/expanding.rt: for each loop the turn and the ends.
+-- The branches of src/lib.rt, and the turn and the ends of its loop.
 -- Assumes nothing.
-use mathlib.Core.Path.{◌≡◌, sym, ◌∙◌, ap}
-use Prim.Native.Nat.{ℕ, zero, suc, ◌+◌, ◌*◌, ◌/◌, ◌%◌, ◌≤◌, ◌<◌}
+use mathlib.Core.Path.{◌≡◌, ◌∙◌, ap}
+use Prim.Native.Nat.{ℕ, zero, suc, ◌+◌, ◌*◌, ◌/◌, ◌≤◌, ◌<◌}
 use mathlib.Core.Bool.{Bool, true, false, not}
 use mathlib.Core.List.{List, [], ◌∷◌}
 use native.Mathlib.Omega.{arith}
 use native.Mathlib.Numerals.{add-one}
-use lib.Dec.{eqb, ltb, leb}
+use lib.Dec.{ltb}
 use lib.ListN.{length, get_or, take, drop, drop_of_length-le, length-take, length-drop}
 use lib.Seq.{drop-cons}
-use borrow.Author.Tests.{eq-eqb, ne_eqb, lt-ltb, le-ltb, le-leb, lt-leb}
-use Rattle.meaning.specs.Lists.{keep_if}
-use Rattle.meaning.specs.Formula.{Formula, var, odd, is_var, mentions, existential}
-use Rattle.meaning.specs.WellFormed.{literals}
-use Rattle.table.specs.Table.{Holds}
+use borrow.Author.Tests.{lt-ltb, le-ltb}
+use Rattle.meaning.specs.Formula.{Formula, var, odd, mentions, existential}
+use Rattle.meaning.specs.WellFormed.{literals, weight}
+use Rattle.table.specs.Table.{Holds, counts_of}
 use Rattle.table.specs.declared.Counts.{Counts}
+use Rattle.permits.specs.Variables.{existentials}
 use Rattle.permits.specs.Places.{place_of}
-use Rattle.meaning.proofs.Literals.{even-of, odd-of}
 use Rattle.meaning.proofs.Weight.{keep-length}
 use Rattle.table.proofs.HoldLaws.{room}
-use Rattle.table.proofs.LoopLaws.{any_found, any-turn, any-end}
 use Rattle.permits.proofs.AndLaws.{and_second, and_none}
-use Rattle.growth.specs.Expanding.{existentials, inner_lit, reaches, share_of, clauses_of, literals_of, expanded_clauses, expanded_literals, expanded_size, weight_of, counts_fit, weighed_counts}
+use Rattle.growth.specs.Expanding.{inner_lit, reaches, share_of, clauses_of, literals_of, expanded_clauses, expanded_literals, expanded_size, weight_of, counts_fit, weighed_counts}
 use Rattle.growth.specs.declared.Weighed.TheVariants.{Over, Fitting, Wide}
 use Rattle.growth.specs.declared.Share.{Share}
 use Rattle.growth.specs.declared.Share.TheVariants.{Stays, Loses, Doubles}
 use Rattle.growth.specs.declared.Size.{Size}
-
--- The existentials of a prefix from an index on -----------------------------------------------------------------------------
-module _ (p : List ℕ) (from n i : ℕ) (inv : n + existentials (drop i p) ≡ existentials (drop from p)) where
-  pub count-even : i < length p → get_or p i 0 % 2 ≡ 0 → n + 1 + existentials (drop (i + 1) p) ≡ existentials (drop from p)
-  unfolding existentials keep_if
-  count-even h e =
-      let d : existentials (drop i p) ≡ suc (existentials (drop (i + 1) p)) = rw (add-one, drop-cons p i 0 h, even-of (get_or p i 0) e) in
-      omega (arith, d, inv)
-
-  pub count-odd : i < length p → (get_or p i 0 % 2 ≡ 0 → ⊥) → n + existentials (drop (i + 1) p) ≡ existentials (drop from p)
-  unfolding existentials keep_if
-  count-odd h e =
-      let d : existentials (drop i p) ≡ existentials (drop (i + 1) p) = rw (add-one, drop-cons p i 0 h, odd-of (get_or p i 0) (omega arith)) in
-      omega (arith, d, inv)
-
-  pub count-end : length p ≤ i → n ≡ existentials (drop from p)
-  unfolding existentials keep_if
-  count-end h = let d : existentials (drop i p) ≡ 0 = rw (drop_of_length-le p {i = i} h) in omega (arith, d, inv)
 
 -- A clause --------------------------------------------------------------------------------------------------------------
 module _ (p : List ℕ) (n l v : ℕ) (is : v ≡ l / 2) (e : Bool) (said : e ≡ existential p v) where
@@ -54,32 +34,6 @@ module _ (p : List ℕ) (n l v : ℕ) (is : v ≡ l / 2) (e : Bool) (said : e �
   pub inner-not : e ≡ false → false ≡ inner_lit p n l
   unfolding inner_lit var
   inner-not t = and_none _ _ e (said ∙ ap (existential p) is) t
-
-module _ (p s : List ℕ) (n i : ℕ) (inv : reaches p n s ≡ reaches p n (drop i s)) (r : Bool) (is : r ≡ inner_lit p n (get_or s i 0)) where
-  pub reach-found : i < length s → r ≡ true → true ≡ reaches p n s
-  unfolding reaches
-  reach-found h t = any_found (inner_lit p n) 0 s i inv h (sym is ∙ t)
-
-  pub reach-turn : i < length s → r ≡ false → reaches p n s ≡ reaches p n (drop (i + 1) s)
-  unfolding reaches
-  reach-turn h t = any-turn (inner_lit p n) 0 s i inv h (sym is ∙ t)
-
-pub reach-end : (p s : List ℕ) (n i : ℕ) → reaches p n s ≡ reaches p n (drop i s) → length s ≤ i → false ≡ reaches p n s
-unfolding reaches
-reach-end p s n i inv h = any-end (inner_lit p n) 0 s i inv h
-
-module _ (s : List ℕ) (a i : ℕ) (inv : mentions s a ≡ mentions (drop i s) a) where
-  pub variable-found : i < length s → get_or s i 0 / 2 ≡ a → true ≡ mentions s a
-  unfolding mentions is_var var
-  variable-found h e = any_found (λ l. eqb (l / 2) a) 0 s i inv h (eq-eqb _ _ e)
-
-  pub variable-turn : i < length s → (get_or s i 0 / 2 ≡ a → ⊥) → mentions s a ≡ mentions (drop (i + 1) s) a
-  unfolding mentions is_var var
-  variable-turn h e = any-turn (λ l. eqb (l / 2) a) 0 s i inv h (ne_eqb _ _ e)
-
-  pub variable-end : length s ≤ i → false ≡ mentions s a
-  unfolding mentions is_var var
-  variable-end h = any-end (λ l. eqb (l / 2) a) 0 s i inv h
 
 module _ (p : List ℕ) (n a : ℕ) (c : List ℕ) (r : Bool) (is : r ≡ reaches p n c) where
   pub share-stays : r ≡ false → Stays ≡ share_of p n a c
@@ -156,18 +110,6 @@ clause-few {φ} {t} {e} h i c is = let r = room h in rw is (omega (arith, get_d-
 
 -- The counts against the limits and the bound --------------------------------------------------------------------------------
 module _ (d : Counts) where
-  pub fits-room : d.variables < 1023 → d.clauses ≤ 2047 → leb d.literals 8191 ≡ counts_fit d
-  unfolding counts_fit
-  fits-room h i = rw (lt-ltb d.variables 1023 h, le-leb d.clauses 2047 i)
-
-  pub fits-clauses : d.variables < 1023 → 2047 < d.clauses → false ≡ counts_fit d
-  unfolding counts_fit
-  fits-clauses h i = rw (lt-ltb d.variables 1023 h, lt-leb d.clauses 2047 i)
-
-  pub fits-variables : 1023 ≤ d.variables → false ≡ counts_fit d
-  unfolding counts_fit
-  fits-variables h = rw (le-ltb d.variables 1023 h)
-
   module _ (below w : ℕ) (is : w ≡ weight_of d) where
     pub weighs-over : below ≤ w → Over ≡ weighed_counts below d
     unfolding weighed_counts
@@ -181,3 +123,8 @@ module _ (d : Counts) where
       pub weighs-wide : f ≡ false → Wide ≡ weighed_counts below d
       unfolding weighed_counts
       weighs-wide t = rw (← is, lt-ltb w below h, ← said, t)
+
+-- the weight by the counts
+pub weight_is : (ψ : Formula) (d : Counts) → d ≡ counts_of ψ d.second → d.variables + (d.clauses + d.literals) ≡ weight ψ
+unfolding counts_of weight
+weight_is ψ d is = ap (λ (x : Counts). x.variables + (x.clauses + x.literals)) is

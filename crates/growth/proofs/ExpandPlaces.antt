@@ -10,13 +10,14 @@ use Rattle.meaning.specs.Lists.{has}
 use Rattle.meaning.specs.Formula.{var, odd, mentions, existential, universal, right_of, any_exist}
 use Rattle.meaning.specs.WellFormed.{good_prefix}
 use Rattle.rules.specs.Eliminate.{inner}
+use Rattle.permits.specs.Variables.{existentials}
 use Rattle.permits.specs.Places.{place_of}
 use Rattle.meaning.proofs.Basics.{clash, false_of, iff, and_l, and_r, and_i}
 use Rattle.meaning.proofs.Lists.{any-has, any-witness, any-keep-le, has-keep}
 use Rattle.meaning.proofs.Literals.{negated-is}
 use Rattle.meaning.proofs.Prefix.{one-kind, exists-mentioned}
 use Rattle.permits.proofs.PlaceLaws.{place-right, right-by-place}
-use Rattle.growth.specs.Expanding.{existentials, inner_lit, reaches, share_of, clauses_of, literals_of, expanded_clauses, expanded_literals}
+use Rattle.growth.specs.Expanding.{inner_lit, reaches, share_of, clauses_of, literals_of, expanded_clauses, expanded_literals}
 use Rattle.growth.proofs.ExpandLists.{mentions-has, mentions-from}
 use Rattle.growth.proofs.ExpandClauses.{right-has, right-exists, right-witness, exist-of}
 use Rattle.growth.proofs.ExpandSums.{share_by, clauses_by, literals_by}

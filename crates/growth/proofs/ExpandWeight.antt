@@ -18,6 +18,7 @@ use Rattle.rules.specs.Entry.{expand}
 use Rattle.rules.specs.Step.{permitted, raw_of, result_of}
 use Rattle.table.specs.Table.{Holds, counts_of}
 use Rattle.table.specs.declared.Counts.{Counts}
+use Rattle.permits.specs.Variables.{existentials}
 use Rattle.permits.specs.Places.{place_of}
 use Rattle.meaning.proofs.Basics.{clash, false_of, and_i, iff}
 use Rattle.meaning.proofs.Lists.{any-keep-le, all-all, all-le}
@@ -29,7 +30,7 @@ use Rattle.rules.proofs.Expand.{copies-ok, with-u, fs-out}
 use Rattle.rules.proofs.Raws.{RawOk, expand-ok}
 use Rattle.table.proofs.HoldLaws.{count-variables, prefix-is}
 use Rattle.growth.specs.Weights.{weighed, weighed_step, NoneSubsumed}
-use Rattle.growth.specs.Expanding.{existentials, expanded_clauses, expanded_literals, expanded_size, weight_of, counts_fit, weighed_counts}
+use Rattle.growth.specs.Expanding.{expanded_clauses, expanded_literals, expanded_size, weight_of, counts_fit, weighed_counts}
 use Rattle.growth.specs.declared.Weighed.{Weighed}
 use Rattle.growth.specs.declared.Weighed.TheVariants.{Over}
 use Rattle.growth.specs.declared.Size.{Size}

@@ -1,9 +1,9 @@
 -- The size and the weight of the result of step 7, as sums over the clauses (document 01, "Steps", 7, and "The run"). Where no
 -- clause is a part of another these are the result's (proofs/ExpandWeight.antt).
 -- Assumes nothing.
-use Rattle.std.specs.Prelude.{ℕ, ◌+◌, ◌-◌, ◌*◌, ◌≤◌, Bool, ◌&&◌, cond, not, List, [], ◌∷◌, ltb, leb, length}
-use Rattle.meaning.specs.Lists.{any_of, keep_if}
-use Rattle.meaning.specs.Formula.{var, odd, mentions, existential}
+use Rattle.std.specs.Prelude.{ℕ, ◌+◌, ◌-◌, ◌*◌, ◌≤◌, Bool, ◌&&◌, cond, List, [], ◌∷◌, ltb, leb, length}
+use Rattle.meaning.specs.Lists.{any_of}
+use Rattle.meaning.specs.Formula.{var, mentions, existential}
 use Rattle.meaning.specs.WellFormed.{max_variables, max_clauses, max_literals}
 use Rattle.table.specs.declared.Counts.{Counts}
 use Rattle.permits.specs.Places.{place_of}
@@ -12,10 +12,6 @@ use Rattle.growth.specs.declared.Weighed.TheVariants.{Over, Fitting, Wide}
 use Rattle.growth.specs.declared.Share.{Share}
 use Rattle.growth.specs.declared.Share.TheVariants.{Stays, Loses, Doubles}
 use Rattle.growth.specs.declared.Size.{Size}
-
--- how many entries are existential
-unfoldable pub existentials : List ℕ → ℕ
-existentials p = length (keep_if (λ q. not (odd q)) p)
 
 -- "the clauses with a variable right of u that is existential", where u has the place n
 unfoldable pub inner_lit : List ℕ → ℕ → ℕ → Bool

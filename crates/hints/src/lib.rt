@@ -13,7 +13,7 @@ ghost use Rattle.table.specs.Ranks.{ranks_of};
 ghost use Rattle.table.specs.Pending.{Pends, Pended};
 
 use stamps::hash_of;
-use table::{Counts, Pending, Pushed, clause_at, equal, first_equal, push_clause, tidy_in};
+use table::{Counts, Pending, Ranks, Scratch, clause_at, equal, first_equal, push_clause, tidy_in};
 
 // Whether the hint is right: it is the number of a clause, and that clause equals this one.
 fn is_right(t: &[u16], c: Counts, clause: &[u16], hint: usize) -> bool
@@ -28,7 +28,7 @@ fn is_right(t: &[u16], c: Counts, clause: &[u16], hint: usize) -> bool
 }
 
 // The number becomes the first of the two hints at a place, and what was the first the second, unless the clause of m literals reaches there.
-fn remember(scratch: &mut [u16], m: usize, at: usize, number: usize)
+fn remember(scratch: &mut Scratch, m: usize, at: usize, number: usize)
     requires at_in_bounds { at + 1 < length scratch.old }
     requires number_bound { number ≤ 2047 }
     ensures { take m scratch.new ≡ take m scratch.old }
@@ -41,26 +41,26 @@ fn remember(scratch: &mut [u16], m: usize, at: usize, number: usize)
 }
 
 // The clause that the first m numbers of the scratch are: after the others, unless an equal one is there.
-fn add_hinted(t: &mut [u16], c: Counts, scratch: &mut [u16], m: usize) -> Pushed
+fn add_hinted(t: &mut [u16], c: Counts, scratch: &mut Scratch, m: usize) -> Option<Counts>
     requires held { Held t.old c }
-    requires scratch_len { (length scratch.old ≡ 1023) × (m ≤ 1023) }
+    requires size_bound { m ≤ 1023 }
     ensures { (φ : Formula) → Holds φ t.old c → Became φ (with_new_clause φ (take m scratch.old)) c.second result t.new }
 {
     let at = 64 + (hash_of(&scratch[..m]) % 958) as usize;
     let first = scratch[at] as usize;
     if is_right(t, c, &scratch[..m], first) {
-        return Pushed::Done(c);
+        return Some(c);
     }
     let second = scratch[at + 1] as usize;
     if is_right(t, c, &scratch[..m], second) {
         // It is asked for first the next time.
         remember(scratch, m, at, second);
-        return Pushed::Done(c);
+        return Some(c);
     }
     let k = first_equal(t, c, &scratch[..m], c.clauses);
     remember(scratch, m, at, k);
     if k < c.clauses {
-        return Pushed::Done(c);
+        return Some(c);
     }
     push_clause(t, c, &scratch[..m])
 }
@@ -69,19 +69,16 @@ fn add_hinted(t: &mut [u16], c: Counts, scratch: &mut [u16], m: usize) -> Pushed
 pub fn close_hinted(
     t: &mut [u16],
     c: Counts,
-    scratch: &mut [u16],
+    scratch: &mut Scratch,
     p: Pending,
-    ranks: &[u16],
-) -> Pushed
+    ranks: &Ranks,
+) -> Option<Counts>
     requires held { Held t.old c }
     requires pended { Pended scratch.old p }
-    requires ranks_len { length ranks.now ≡ 1024 }
     ensures { (φ : Formula) (raw : List ℕ) → Holds φ t.old c → good_prefix φ.prefix ≡ true → ranks.now ≡ ranks_of φ.prefix → Pends raw scratch.old p → Became φ (with_raw φ raw) c.second result t.new }
 {
-    let q = tidy_in(scratch, p, ranks);
-    if q.both {
-        return Pushed::Done(c);
+    match tidy_in(scratch, p, ranks) {
+        Some(m) => add_hinted(t, c, scratch, m),
+        None => Some(c),
     }
-    let m = q.size;
-    add_hinted(t, c, scratch, m)
 }

@@ -1,6 +1,6 @@
 -- The clauses with a literal: which they are, how many, and that they are there exactly if the literal occurs.
 -- Assumes nothing.
-use Prim.Native.Nat.{ℕ, suc, ◌+◌, ◌≤◌, ◌<◌}
+use Prim.Native.Nat.{ℕ, suc, ◌+◌, ◌<◌}
 use mathlib.Core.Path.{◌≡◌, refl, sym, ap, ◌∙◌}
 use mathlib.Core.Bool.{Bool, true, false, ◌||◌, not, cond}
 use mathlib.Core.List.{List, [], ◌∷◌, ◌++◌, map}
@@ -12,8 +12,6 @@ use native.Mathlib.Omega.{arith}
 use native.Mathlib.Nat.{add-zero, add-suc, suc-add}
 use Rattle.meaning.specs.Lists.{all_of, any_of, keep_if, has, up_from}
 use Rattle.index.specs.Index.{clauses_from, clauses_with}
-use Rattle.meaning.proofs.Lists.{all-kept}
-use Rattle.meaning.proofs.Weight.{keep-length}
 use Rattle.table.proofs.LoopLaws.{all_get_d}
 
 -- As a selection: from clause k on, where the list `before` has the k clauses before ----------------------------
@@ -58,9 +56,6 @@ with-clauses cs l = from-clauses l 0 [] cs refl
 pub with-length : (cs : List (List ℕ)) (l : ℕ) → length (clauses_with cs l) ≡ length (keep_if (has l) cs)
 with-length cs l = sym (length-map (clauses_with cs l) (λ i. get_or cs i [])) ∙ ap length (with-clauses cs l)
 
-pub with-few : (cs : List (List ℕ)) (l : ℕ) → length (clauses_with cs l) ≤ length cs
-with-few cs l = omega (arith, with-length cs l, keep-length (has l) cs)
-
 from-below : (l k m : ℕ) (cs : List (List ℕ)) → m ≡ k + length cs → all_of (λ i. ltb i m) (clauses_from k cs l) ≡ true
 unfolding clauses_from all_of
 from-below l k m [] e = refl
@@ -79,10 +74,6 @@ with-below cs l = from-below l 0 (length cs) cs (omega arith)
 pub with_at : (cs : List (List ℕ)) (l j : ℕ) → j < length (clauses_with cs l) → get_or (clauses_with cs l) j 0 < length cs
 with_at cs l j h =
     ltb-true (get_or (clauses_with cs l) j 0) (length cs) (all_get_d (λ i. ltb i (length cs)) 0 (clauses_with cs l) j (with-below cs l) h)
-
--- and that clause has the literal
-pub with-has : (cs : List (List ℕ)) (l : ℕ) → all_of (λ i. has l (get_or cs i [])) (clauses_with cs l) ≡ true
-with-has cs l = rw (with-kept cs l) (all-kept (λ i. has l (get_or cs i [])) (up_from 0 (length cs)))
 
 -- the literal occurs exactly if there are some
 kept-some : (l : ℕ) (cs : List (List ℕ)) → any_of (has l) cs ≡ not (eqb (length (keep_if (has l) cs)) 0)

@@ -15,7 +15,7 @@ use Rattle.table.specs.Ranks.{small}
 use Rattle.table.specs.declared.Counts.{Counts}
 use Rattle.index.specs.Index.{clauses_from, clauses_with, lists_below, list_start, list_end, placed, lists_of, signs_at, index_of}
 use Rattle.index.specs.Signs.{signed}
-use Rattle.index.specs.Build.{lower, starts_in, with_number, HeldWell, Filled, Listable, Turn, Turned, Tallies, TallyIn}
+use Rattle.index.specs.Build.{lower, starts_in, with_number, Filled, Listable, Turn, Turned, Tallies, TallyIn}
 use Rattle.meaning.proofs.Basics.{and_l, and_r, and_i}
 use Rattle.meaning.proofs.Lists.{all_append}
 use Rattle.table.proofs.HoldLaws.{room, count-clauses, used-is}
@@ -32,9 +32,6 @@ use Rattle.index.proofs.PutLaws.{put-fits, put-number}
 -- The clauses of a formula ---------------------------------------------------------------------------------------
 pub listable : {φ : Formula} {t : List ℕ} {c : Counts} → Holds φ t c → well_formed φ ≡ true → Listable φ.clauses
 listable {φ} {t} {c} h w = record { rise = rise-all φ w; low = small_all φ w h.fitting; literals = (room h).literals }
-
-pub held-well : {φ : Formula} {t : List ℕ} {c : Counts} → Holds φ t c → well_formed φ ≡ true → HeldWell t c
-held-well {φ} {t} {c} h w = record { formula = φ; holds = h; well = w }
 
 -- Before any clause ----------------------------------------------------------------------------------------------
 pub fill_start : (cs : List (List ℕ)) (index : List ℕ) → Listable cs → index ≡ starts_in (all_literals cs) → Filled cs (clauses_with (take 0 cs)) index

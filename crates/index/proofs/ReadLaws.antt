@@ -220,3 +220,7 @@ studied-indexes {φ} {t} {c} {ranks} {index} s = record { well = s.well; fitting
 
 pub study-indexed : {t : List ℕ} {c : Counts} {ranks index : List ℕ} → Study t c ranks index → Indexed index
 study-indexed {t} {c} {ranks} {index} s = indexed (studied-indexes s.studied)
+
+-- what is at hand is that of some formula
+pub study-in : {φ : Formula} {t : List ℕ} {c : Counts} {ranks index : List ℕ} → Studied φ t c ranks index → Study t c ranks index
+study-in {φ} s = record { formula = φ; studied = s }

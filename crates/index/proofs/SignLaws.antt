@@ -14,7 +14,6 @@ use native.Mathlib.Omega.{arith}
 use Rattle.meaning.specs.Lists.{all_of, any_of, has, part_of}
 use Rattle.meaning.specs.Formula.{var, is_var, mentions}
 use Rattle.index.specs.Signs.{bit_of, sign_on, signature_of, variables_in, signed}
-use Rattle.meaning.proofs.Folds.{fold-turn}
 use Rattle.meaning.proofs.Basics.{and_l, and_r, or_elim, clash, eqb-true, eqb-eq}
 use Rattle.index.proofs.BitLaws.{bit_is, part-own, part_stays, part-both}
 
@@ -103,11 +102,10 @@ module _ (cs : List (List ℕ)) (at i : ℕ) (t : List ℕ) {r : List ℕ} (inv 
   unfolding signed
   signed-end h = sym (inv ∙ rw (drop_of_length-le cs {i = i} h))
 
--- the loop over the literals: the bit comes by a shift
-pub sign-turn : (c : List ℕ) (i s : ℕ) {r : ℕ} → r ≡ foldl sign_on s (drop i c) → i < length c
-    → r ≡ foldl sign_on (bit_or s (1 * 2 ^ (get_or c i 0 / 2 % 16) % 65536)) (drop (i + 1) c)
+-- the bit of a literal comes by a shift
+pub sign-shift : (s l : ℕ) → bit_or s (1 * 2 ^ (l / 2 % 16) % 65536) ≡ sign_on s l
 unfolding sign_on bit_of var
-sign-turn c i s inv h = rw (bit_is (get_or c i 0 / 2 % 16) (omega arith)) (fold-turn sign_on 0 c i s inv h)
+sign-shift s l = rw (bit_is (l / 2 % 16) (omega arith)) refl
 
 -- The signature of a part need not be that of the whole: who asks for the same one passes over the clause (1 2), of which (1) is a part.
 pub proper-part : (part_of (2 ∷ []) (2 ∷ 4 ∷ []) ≡ true) × (eqb (signature_of (2 ∷ [])) (signature_of (2 ∷ 4 ∷ [])) ≡ false)

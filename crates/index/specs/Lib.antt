@@ -2,3 +2,4 @@ pub mod Signs
 pub mod Index
 pub mod Study
 pub mod Build
+pub mod AtHand

@@ -28,10 +28,8 @@ fn put_clause(index: &mut [u16], clause: &[u16], number: u16)
     requires { Turned index.old clause.now number }
     ensures { (cs : List (List ℕ)) → Turn cs index.old clause.now number → Filled cs (clauses_with (take (number + 1) cs)) index.new }
 {
-    let mut j = 0;
-    while j < clause.len() {
-        put_number(index, clause[j], number);
-        j += 1;
+    for literal in clause {
+        put_number(index, *literal, number);
     }
 }
 
@@ -42,10 +40,8 @@ fn put_lists(t: &[u16], c: Counts, index: &mut [u16])
     ensures { (φ : Formula) → Holds φ t.now c → well_formed φ ≡ true → index.new ≡ lists_of φ.clauses }
 {
     list_starts(index);
-    let mut i = 0;
-    while i < c.clauses {
+    for i in 0..c.clauses {
         put_clause(index, clause_at(t, c, i), i as u16);
-        i += 1;
     }
 }
 

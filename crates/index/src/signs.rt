@@ -12,13 +12,9 @@ use table::{Counts, clause_at};
 pub fn signature(clause: &[u16]) -> u16
     ensures { result ≡ signature_of clause.now }
 {
-    let mut s: u16 = 0;
-    let mut i = 0;
-    while i < clause.len() {
-        s = s | 1 << (clause[i] / 2 % 16);
-        i += 1;
-    }
-    s
+    clause
+        .iter()
+        .fold(0, |sign, literal| sign | 1 << (*literal / 2 % 16))
 }
 
 // One signature, where the table has the place.
@@ -37,10 +33,8 @@ pub fn put_signatures(t: &[u16], c: Counts, index: &mut [u16])
     ensures { (φ : Formula) → Holds φ t.now c → index.old ≡ lists_of φ.clauses → index.new ≡ index_of φ.clauses }
 {
     let start = NUMBERS_AT + index[2047] as usize;
-    let mut i = 0;
-    while i < c.clauses {
+    for i in 0..c.clauses {
         put_signature(index, start + i, signature(clause_at(t, c, i)));
-        i += 1;
     }
 }
 

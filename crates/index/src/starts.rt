@@ -15,11 +15,9 @@ pub fn count_literals(literals: &[u16], index: &mut [u16])
     ensures { index.new ≡ counts_in literals.now }
 {
     zero(index);
-    let mut i = 0;
-    while i < literals.len() {
-        let l = literals[i] as usize;
-        index[l] = index[l] + 1;
-        i += 1;
+    for literal in literals {
+        let l = *literal as usize;
+        index[l] += 1;
     }
 }
 
@@ -29,11 +27,9 @@ pub fn list_starts(index: &mut [u16])
     ensures { (φ : Formula) → Tallies φ index.old → index.new ≡ starts_in (all_literals φ.clauses) }
 {
     let mut sum: u16 = 0;
-    let mut l = 0;
-    while l < NUMBERS_AT {
+    for l in 0..NUMBERS_AT {
         let n = index[l];
         index[l] = sum;
         sum += n;
-        l += 1;
     }
 }

@@ -71,9 +71,9 @@ module _ (s : List ℕ) (i : ℕ) (one : 1 ≤ i) (inv : ascends s ≡ ascends (
   rises-end h = sym (inv ∙ ascends-short (drop (i - 1) s) (rw length-drop (omega arith)))
 
 -- By ranks ----------------------------------------------------------------------------------------------------
-pub ranked-large : (ranks : List ℕ) (l : ℕ) → 2047 < l → false ≡ ranked ranks l
+pub ranked-large : (ranks : List ℕ) (l : ℕ) → 2047 < l → leb l 2047 ≡ ranked ranks l
 unfolding ranked small var
-ranked-large ranks l h = rw (lt-leb (l / 2) 1023 (omega arith))
+ranked-large ranks l h = rw (lt-leb l 2047 h, lt-leb (l / 2) 1023 (omega arith))
 
 pub ranked-small : (ranks : List ℕ) (l r : ℕ) → l ≤ 2047 → r ≡ rank_at ranks l → not (eqb r 0) ≡ ranked ranks l
 unfolding ranked small var
@@ -109,18 +109,18 @@ module _ (p : List ℕ) (g : good_entries p ≡ true) where
 
   -- The returns of is_tidy
   module _ (ranks c : List ℕ) (e : ranks ≡ ranks_of p) where
-    pub tidy-falls : ascends c ≡ false → false ≡ tidy_clause p c
+    pub tidy-fails : (ascends c && all_of (ranked ranks) c) ≡ false → false ≡ tidy_clause p c
     unfolding tidy_clause
-    tidy-falls a = rw a
+    tidy-fails a =
+        by_cases (ascends c)
+        (λ x. let b : all_of (ranked ranks) c ≡ false = rw x at a in rw (x, ← ranked-bound c, ← e, b))
+        (λ x. rw x)
 
-    pub tidy-unbound : ascends c ≡ true → all_of (ranked ranks) c ≡ false → false ≡ tidy_clause p c
+    pub tidy-tells : (ascends c && all_of (ranked ranks) c) ≡ true → (r : Bool) → r ≡ all_of (stays_by ranks (last_by ranks 0 c)) c → r ≡ tidy_clause p c
     unfolding tidy_clause
-    tidy-unbound a b = rw (a, ← ranked-bound c, ← e, b)
-
-    pub tidy-tells : ascends c ≡ true → all_of (ranked ranks) c ≡ true → (r : Bool) → r ≡ all_of (stays_by ranks (last_by ranks 0 c)) c → r ≡ tidy_clause p c
-    unfolding tidy_clause
-    tidy-tells a b r q =
-        rw (a, ← ranked-bound c, ← e, b)
+    tidy-tells a r q =
+        let b : all_of (ranked ranks) c ≡ true = and_r (ascends c) (all_of (ranked ranks) c) a in
+        rw (and_l (ascends c) (all_of (ranked ranks) c) a, ← ranked-bound c, ← e, b)
         (q ∙ ap (λ (x : List ℕ). all_of (stays_by x (last_by x 0 c)) c) e ∙ reduced-is p prefix-good c (ranked-small-all ranks c b))
 
 -- Clauses that differ, each from those before it ---------------------------------------------------------------

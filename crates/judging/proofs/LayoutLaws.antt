@@ -2,7 +2,7 @@
 -- Assumes nothing.
 use Prim.Native.Nat.{ℕ, ◌+◌, ◌≤◌, ◌<◌}
 use mathlib.Core.Path.{◌≡◌, sym, ◌∙◌}
-use mathlib.Core.Bool.{Bool, true, false}
+use mathlib.Core.Bool.{Bool, true, false, ◌&&◌}
 use mathlib.Core.List.{List}
 use lib.ListN.{length, get_or, drop, drop_of_length-le}
 use lib.Seq.{drop-cons}
@@ -11,23 +11,9 @@ use borrow.Author.Tests.{eq-eqb, ne_eqb, le-leb, lt-leb, eqb-true, leb-true}
 use native.Mathlib.Numerals.{add-one}
 use Rattle.judging.specs.Layout.{all_zero, ends_up_to, part, layout_ok}
 use Rattle.table.specs.declared.Counts.{Counts}
-use Rattle.meaning.proofs.Basics.{and_l, and_r}
-use Rattle.table.proofs.LoopLaws.{all-fails, all-turn, all_end}
+use Rattle.meaning.proofs.Basics.{by_cases, and_l, and_r}
 
--- The loops ---------------------------------------------------------------------------------------------------
-module _ (s : List ℕ) (i : ℕ) (inv : all_zero s ≡ all_zero (drop i s)) where
-  pub zero_turn : i < length s → get_or s i 0 ≡ 0 → all_zero s ≡ all_zero (drop (i + 1) s)
-  unfolding all_zero
-  zero_turn h e = all-turn (λ x. eqb x 0) 0 s i inv h (eq-eqb (get_or s i 0) 0 e)
-
-  pub zero-not : i < length s → (get_or s i 0 ≡ 0 → ⊥) → false ≡ all_zero s
-  unfolding all_zero
-  zero-not h e = all-fails (λ x. eqb x 0) 0 s i inv h (ne_eqb (get_or s i 0) 0 e)
-
-  pub zero-end : length s ≤ i → true ≡ all_zero s
-  unfolding all_zero
-  zero-end h = all_end (λ x. eqb x 0) 0 s i inv h
-
+-- The loop over ends ---------------------------------------------------------------------------------------------------
 module _ (s : List ℕ) (k m i : ℕ) (inv : ends_up_to 0 s m ≡ ends_up_to k (drop i s) m) where
   pub ends-turn : i < length s → k ≤ get_or s i 0 → ends_up_to 0 s m ≡ ends_up_to (get_or s i 0) (drop (i + 1) s) m
   unfolding ends_up_to
@@ -63,23 +49,30 @@ module _ (t : List ℕ) (c : Counts) where
         not-literals e = rw (eq-eqb _ _ e₀, le-leb _ _ e₁, le-leb _ _ e₂, lt-leb _ _ e)
 
         module _ (e₃ : c.literals ≤ 8191) where
-          pub not-zero-1 : all_zero (part t c.variables 1023) ≡ false → false ≡ layout_ok t c
+          -- the three stretches of unused places, and the ends
+          pub not-zero : ((all_zero (part t c.variables 1023) && all_zero (part t (1023 + c.clauses) 3070)) && all_zero (part t (3070 + c.literals) 11261)) ≡ false → false ≡ layout_ok t c
           unfolding layout_ok
-          not-zero-1 e = rw (eq-eqb _ _ e₀, le-leb _ _ e₁, le-leb _ _ e₂, le-leb _ _ e₃, e)
+          not-zero e =
+              rw (eq-eqb _ _ e₀, le-leb _ _ e₁, le-leb _ _ e₂, le-leb _ _ e₃)
+              (by_cases (all_zero (part t c.variables 1023))
+              (λ a. by_cases (all_zero (part t (1023 + c.clauses) 3070)) (λ b. let z = rw (a, b) at e in rw (a, b, z)) (λ b. rw (a, b)))
+              (λ a. rw a))
 
-          module _ (e₄ : all_zero (part t c.variables 1023) ≡ true) where
-            pub not-zero-2 : all_zero (part t (1023 + c.clauses) 3070) ≡ false → false ≡ layout_ok t c
-            unfolding layout_ok
-            not-zero-2 e = rw (eq-eqb _ _ e₀, le-leb _ _ e₁, le-leb _ _ e₂, le-leb _ _ e₃, e₄, e)
-
-            module _ (e₅ : all_zero (part t (1023 + c.clauses) 3070) ≡ true) where
-              pub not-zero-3 : all_zero (part t (3070 + c.literals) 11261) ≡ false → false ≡ layout_ok t c
-              unfolding layout_ok
-              not-zero-3 e = rw (eq-eqb _ _ e₀, le-leb _ _ e₁, le-leb _ _ e₂, le-leb _ _ e₃, e₄, e₅, e)
-
-              pub ends-tell : all_zero (part t (3070 + c.literals) 11261) ≡ true → (r : Bool) → r ≡ ends_up_to 0 (part t 1023 (1023 + c.clauses)) c.literals → r ≡ layout_ok t c
-              unfolding layout_ok
-              ends-tell e r q = rw (eq-eqb _ _ e₀, le-leb _ _ e₁, le-leb _ _ e₂, le-leb _ _ e₃, e₄, e₅, e) q
+          pub ends-tell : ((all_zero (part t c.variables 1023) && all_zero (part t (1023 + c.clauses) 3070)) && all_zero (part t (3070 + c.literals) 11261)) ≡ true
+              → (r : Bool) → r ≡ ends_up_to 0 (part t 1023 (1023 + c.clauses)) c.literals → r ≡ layout_ok t c
+          unfolding layout_ok
+          ends-tell e r q =
+              let l = and_l _ (all_zero (part t (3070 + c.literals) 11261)) e in
+              rw (
+                eq-eqb _ _ e₀,
+                le-leb _ _ e₁,
+                le-leb _ _ e₂,
+                le-leb _ _ e₃,
+                and_l (all_zero (part t c.variables 1023)) _ l,
+                and_r (all_zero (part t c.variables 1023)) _ l,
+                and_r (all_zero (part t c.variables 1023) && all_zero (part t (1023 + c.clauses) 3070)) _ e,
+              )
+              q
 
 -- What the test says ------------------------------------------------------------------------------------------
 pub record Laid (t : List ℕ) (c : Counts) : Type 0 where
@@ -114,4 +107,4 @@ laid t c h =
 
 pub of-laid : (t : List ℕ) (c : Counts) → Laid t c → layout_ok t c ≡ true
 of-laid t c l =
-    sym (ends-tell t c l.long l.variables l.clauses l.literals l.zero-1 l.zero-2 l.zero-3 true (sym l.ends))
+    sym (ends-tell t c l.long l.variables l.clauses l.literals (rw (l.zero-1, l.zero-2, l.zero-3)) true (sym l.ends))

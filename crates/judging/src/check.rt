@@ -11,75 +11,48 @@ ghost use Rattle.judging.specs.Check.{good_table};
 
 use crate::layout::layout_ok;
 use stamps::stamp;
-use table::{Counts, all_stay, clause_at, is_before, rank_of, rank_prefix};
+use table::{Counts, Ranks, all_stay, clause_at, is_before, rank_of, rank_prefix};
 
 // Whether the variables of a clause ascend.
 fn rises(clause: &[u16]) -> bool
     ensures { result ≡ ascends clause.now }
 {
-    let mut i = 1;
-    while i < clause.len() {
-        let k = i - 1;
-        if clause[i] / 2 <= clause[k] / 2 {
+    for i in 1..clause.len() {
+        if clause[i] / 2 <= clause[i - 1] / 2 {
             return false;
         }
-        i += 1;
     }
     true
 }
 
 // Whether the literal's variable has a rank.
-fn has_rank(ranks: &[u16], literal: u16) -> bool
-    requires { length ranks.now ≡ 1024 }
+fn has_rank(ranks: &Ranks, literal: u16) -> bool
     ensures { result ≡ ranked ranks.now literal }
 {
-    if 2047 < literal {
-        return false;
-    }
-    rank_of(ranks, literal) != 0
+    literal <= 2047 && rank_of(ranks, literal) != 0
 }
 
 // Whether every variable of a clause has a rank.
-fn all_ranked(ranks: &[u16], clause: &[u16]) -> bool
-    requires { length ranks.now ≡ 1024 }
+fn all_ranked(ranks: &Ranks, clause: &[u16]) -> bool
     ensures { result ≡ all_of (ranked ranks.now) clause.now }
 {
-    let mut i = 0;
-    while i < clause.len() {
-        if has_rank(ranks, clause[i]) {
-            i += 1;
-        } else {
-            return false;
-        }
-    }
-    true
+    clause.iter().all(|literal| has_rank(ranks, *literal))
 }
 
 // Whether a clause is tidy, by the ranks of the prefix.
-fn is_tidy(ranks: &[u16], clause: &[u16]) -> bool
-    requires { length ranks.now ≡ 1024 }
+fn is_tidy(ranks: &Ranks, clause: &[u16]) -> bool
     ensures { (p : List ℕ) → good_entries p ≡ true → ranks.now ≡ ranks_of p → result ≡ tidy_clause p clause.now }
 {
-    if rises(clause) {
-        if all_ranked(ranks, clause) {
-            return all_stay(ranks, clause);
-        }
-        return false;
-    }
-    false
+    rises(clause) && all_ranked(ranks, clause) && all_stay(ranks, clause)
 }
 
 // Whether every clause of the table is tidy.
-fn all_tidy(t: &[u16], c: Counts, ranks: &[u16]) -> bool
-    requires held { Held t.now c }
-    requires ranks_len { length ranks.now ≡ 1024 }
+fn all_tidy(t: &[u16], c: Counts, ranks: &Ranks) -> bool
+    requires { Held t.now c }
     ensures { (φ : Formula) → Holds φ t.now c → good_entries φ.prefix ≡ true → ranks.now ≡ ranks_of φ.prefix → result ≡ all_of (tidy_clause φ.prefix) φ.clauses }
 {
-    let mut i = 0;
-    while i < c.clauses {
-        if is_tidy(ranks, clause_at(t, c, i)) {
-            i += 1;
-        } else {
+    for i in 0..c.clauses {
+        if !is_tidy(ranks, clause_at(t, c, i)) {
             return false;
         }
     }
@@ -88,18 +61,15 @@ fn all_tidy(t: &[u16], c: Counts, ranks: &[u16]) -> bool
 
 // Whether clause i equals one before it. The filter has the stamps of those before it, so they are looked through only where the
 // clause's own stamp is there. Its stamp is put in.
-fn is_repeated(t: &[u16], c: Counts, i: usize, filter: &mut [u64]) -> bool
+fn is_repeated(t: &[u16], c: Counts, i: usize, filter: &mut [u64; 512]) -> bool
     requires held { Held t.now c }
-    requires i_lt_clauses { (i < c.clauses) × (length filter.old ≡ 512) }
-    requires i_value { (φ : Formula) → Holds φ t.now c → all_of (stamped filter.old) (take i φ.clauses) ≡ true }
+    requires place { i < c.clauses }
+    requires before { (φ : Formula) → Holds φ t.now c → all_of (stamped filter.old) (take i φ.clauses) ≡ true }
     ensures value { (φ : Formula) → Holds φ t.now c → result ≡ any_of (same (get_or φ.clauses i [])) (take i φ.clauses) }
     ensures filter_after { (φ : Formula) → Holds φ t.now c → filter.new ≡ with_stamp filter.old (get_or φ.clauses i []) }
 {
     let clause = clause_at(t, c, i);
-    if stamp(filter, clause) {
-        return is_before(t, c, clause, i);
-    }
-    false
+    stamp(filter, clause) && is_before(t, c, clause, i)
 }
 
 // Whether no clause of the table stands there twice. With 2,047 clauses and 32,768 bits, few have to be looked for.
@@ -108,39 +78,29 @@ fn all_differ(t: &[u16], c: Counts) -> bool
     ensures { (φ : Formula) → Holds φ t.now c → result ≡ distinct φ.clauses }
 {
     let mut filter = [0u64; 512];
-    let mut i = 0;
-    while i < c.clauses {
+    for i in 0..c.clauses {
         if is_repeated(t, c, i, &mut filter) {
             return false;
         }
-        i += 1;
     }
     true
 }
 
 // Whether the clauses of a table that holds a formula over a good prefix are tidy and distinct.
-fn clauses_good(t: &[u16], c: Counts, ranks: &[u16]) -> bool
-    requires held { Held t.now c }
-    requires ranks_len { length ranks.now ≡ 1024 }
+fn clauses_good(t: &[u16], c: Counts, ranks: &Ranks) -> bool
+    requires { Held t.now c }
     ensures { (φ : Formula) → Holds φ t.now c → good_entries φ.prefix ≡ true → ranks.now ≡ ranks_of φ.prefix → result ≡ (all_of (tidy_clause φ.prefix) φ.clauses && distinct φ.clauses) }
 {
-    if all_tidy(t, c, ranks) {
-        return all_differ(t, c);
-    }
-    false
+    all_tidy(t, c, ranks) && all_differ(t, c)
 }
 
 // Whether the table and the counts are those of a well formed formula. Any table, any length, any counts.
 pub fn well_formed(t: &[u16], c: Counts) -> bool
     ensures { result ≡ good_table t.now c }
 {
-    if layout_ok(t, c) {
-        let v = c.variables;
-        let mut ranks = [0u16; 1024];
-        if rank_prefix(&t[..v], &mut ranks) {
-            return clauses_good(t, c, &ranks);
-        }
+    if !layout_ok(t, c) {
         return false;
     }
-    false
+    let mut ranks = [0u16; 1024];
+    rank_prefix(&t[..c.variables], &mut ranks) && clauses_good(t, c, &ranks)
 }

@@ -7,29 +7,20 @@ use table::Counts;
 fn all_zero(s: &[u16]) -> bool
     ensures { result ≡ all_zero s.now }
 {
-    let mut i = 0;
-    while i < s.len() {
-        if s[i] != 0 {
-            return false;
-        }
-        i += 1;
-    }
-    true
+    s.iter().all(|x| *x == 0)
 }
 
 // Whether clause ends never fall, and the last is `last`.
 fn ends_up_to(s: &[u16], last: usize) -> bool
     ensures { result ≡ ends_up_to 0 s.now last }
 {
-    let mut k: usize = 0;
-    let mut i = 0;
-    while i < s.len() {
-        let e = s[i] as usize;
+    let mut k = 0;
+    for e in s {
+        let e = usize::from(*e);
         if e < k {
             return false;
         }
         k = e;
-        i += 1;
     }
     k == last
 }
@@ -53,19 +44,10 @@ pub fn layout_ok(t: &[u16], c: Counts) -> bool
     if Counts::LITERALS < m {
         return false;
     }
-    let ends = Counts::ENDS_AT;
     let after = Counts::ENDS_AT + n;
-    let literals = Counts::LITERALS_AT;
     let free = Counts::LITERALS_AT + m;
-    let end = Counts::TABLE;
-    if all_zero(&t[v..ends]) {
-        if all_zero(&t[after..literals]) {
-            if all_zero(&t[free..end]) {
-                return ends_up_to(&t[ends..after], m);
-            }
-            return false;
-        }
-        return false;
-    }
-    false
+    all_zero(&t[v..Counts::ENDS_AT])
+        && all_zero(&t[after..Counts::LITERALS_AT])
+        && all_zero(&t[free..Counts::TABLE])
+        && ends_up_to(&t[Counts::ENDS_AT..after], m)
 }

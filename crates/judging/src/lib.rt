@@ -7,12 +7,11 @@ mod literals;
 
 pub use check::well_formed;
 pub use layout::layout_ok;
-pub use literals::{literals_answer, literals_part};
+pub use literals::{literals_answer, literals_part, named};
 
-// What is said of a call that looks at both lent tables.
+// Why a call that looks at both lent tables is refused.
 #[derive(Clone, Copy)]
-pub enum Asked {
-    Given,
+pub enum Unfit {
     WrongLength,
     Malformed,
 }

@@ -3,14 +3,14 @@
 use mathlib.Core.Path.{◌≡◌, refl, sym, ap, ◌∙◌}
 use mathlib.Core.Bool.{false}
 use mathlib.Core.List.{List, [], ◌∷◌, ◌++◌, append_assoc}
-use Prim.Native.Nat.{ℕ, suc, ◌+◌, ◌/◌, ◌%◌, ◌≤◌, ◌<◌, max}
+use Prim.Native.Nat.{ℕ, suc, ◌+◌, ◌-◌, ◌/◌, ◌%◌, ◌≤◌, ◌<◌, max}
 use Prim.Native.Char.{code}
 use native.Mathlib.Numerals.{add-one}
 use native.Mathlib.Omega.{arith}
 use borrow.Author.Tests.{eq-eqb, ne_eqb}
 use lib.Dec.{eqb}
-use lib.ListN.{length, drop, get_or, drop_of_length-le}
-use lib.Seq.{drop-cons}
+use lib.ListN.{length, take, drop, get_or, drop_of_length-le}
+use lib.Seq.{drop-cons, take_all}
 use Rattle.meaning.specs.Formula.{Formula, var, odd}
 use Rattle.qdimacs.specs.Write.{decimal, letter, largest, line_rest, prefix_lines, literal_text, clause_line, clause_lines, header, write}
 use Rattle.lines.specs.Written.{Room, Written, Sized}
@@ -155,24 +155,32 @@ unfolding prefix_lines
 prefix-none [] h = refl
 prefix-none (e ∷ es) h = absurd (omega arith)
 
-prefix-first : (p : List ℕ) → (length p ≡ 0 → ⊥) → Splits (prefix_lines p) (first_text (get_or p 0 0)) (line_rest (get_or p 0 0) (drop 1 p))
-unfolding prefix_lines first_text field_text
-prefix-first [] h = absurd (h refl)
-prefix-first (e ∷ es) h =
-    record { is = ap {B = List ℕ} (λ l. letter e ∷ code " " ∷ l) (sym (append_assoc (decimal (var e)) (code " " ∷ []) (line_rest e es))) }
+-- the part `[_, rest @ ..]` of the prefix
+abbrev pub rest_of : List ℕ → List ℕ
+rest_of p = take (length p - 1) (drop 1 p)
 
-module _ (p : List ℕ) (h : length p ≡ 0 → ⊥) where
-  pub first_counted : (n : ℕ) → Sized (decimal (get_or p 0 0 / 2)) 5 n → (n + 3) + length (line_rest (get_or p 0 0) (drop 1 p)) ≡ length (prefix_lines p)
+prefix-first : (p : List ℕ) → 1 ≤ length p → Splits (prefix_lines p) (first_text (get_or p 0 0)) (line_rest (get_or p 0 0) (rest_of p))
+unfolding prefix_lines first_text field_text
+prefix-first [] h = absurd (omega arith)
+prefix-first (e ∷ es) h =
+    record {
+      is =
+          ap {B = List ℕ} (λ l. letter e ∷ code " " ∷ l)
+          (rw (take_all (length (e ∷ es) - 1) es (omega arith)) (sym (append_assoc (decimal (var e)) (code " " ∷ []) (line_rest e es))));
+    }
+
+module _ (p : List ℕ) (h : 1 ≤ length p) where
+  pub first_counted : (n : ℕ) → Sized (decimal (get_or p 0 0 / 2)) 5 n → (n + 3) + length (line_rest (get_or p 0 0) (rest_of p)) ≡ length (prefix_lines p)
   first_counted n s = omega (arith, s.is, splits-size (prefix-first p h), first-size (get_or p 0 0))
 
   pub first-room : {at : ℕ} {a : List ℕ} → Room (prefix_lines p) at a → Room (first_text (get_or p 0 0)) at a
   first-room k = room-first (prefix-first p h) k
 
   module _ {at r : ℕ} {a b : List ℕ} (w : Written (first_text (get_or p 0 0)) at a b r) where
-    pub room-rest : Room (prefix_lines p) at a → Room (line_rest (get_or p 0 0) (drop 1 p)) r b
+    pub room-rest : Room (prefix_lines p) at a → Room (line_rest (get_or p 0 0) (rest_of p)) r b
     room-rest k = room_next (prefix-first p h) w k
 
-    pub prefix-done : {d : List ℕ} {q : ℕ} → Written (line_rest (get_or p 0 0) (drop 1 p)) r b d q → Written (prefix_lines p) at a d q
+    pub prefix-done : {d : List ℕ} {q : ℕ} → Written (line_rest (get_or p 0 0) (rest_of p)) r b d q → Written (prefix_lines p) at a d q
     prefix-done v = written_both (prefix-first p h) w v
 
 rest-cons : (q e : ℕ) (es : List ℕ) → line_rest q (e ∷ es) ≡ entry_text q e ++ line_rest e es
@@ -181,7 +189,7 @@ rest-cons q e es =
     let a = sym (append_assoc (decimal (var e)) (code " " ∷ []) (line_rest e es)) in
     by_cases (eqb (q % 2) (e % 2)) (λ z. rw z a) (λ z. rw z (ap {B = List ℕ} (λ l. code "0" ∷ code "\n" ∷ letter e ∷ code " " ∷ l) a))
 
--- the loop over the further entries; q is the entry before
+-- the loop over the further entries p; q is the entry before
 module _ (p : List ℕ) (i q : ℕ) where
   rest_more : i < length p → Splits (line_rest q (drop i p)) (entry_text q (get_or p i 0)) (line_rest (get_or p i 0) (drop (i + 1) p))
   rest_more h = record { is = rw (drop-cons p i 0 h, add-one i) (rest-cons q (get_or p i 0) (drop (suc i) p)) }

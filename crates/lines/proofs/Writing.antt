@@ -1,13 +1,14 @@
 -- Texts written one after another, and the loops that write: what is still to be written makes the whole.
 -- Assumes nothing.
 use mathlib.Core.Path.{◌≡◌, refl, sym, ap, ◌∙◌, subst}
-use mathlib.Core.List.{List, [], ◌∷◌, ◌++◌}
-use Prim.Native.Nat.{ℕ, suc, ◌+◌, ◌≤◌, ◌<◌}
+use mathlib.Core.List.{List, [], ◌∷◌, ◌++◌, append_assoc}
+use Prim.Native.Nat.{ℕ, suc, ◌+◌}
 use native.Mathlib.Nat.{add-zero, add-suc, suc-add}
-use native.Mathlib.Numerals.{add-one}
 use native.Mathlib.Omega.{arith}
-use lib.ListN.{length, drop, get_or, set, length-append, drop_of_length-le}
-use lib.Seq.{sets, length-sets, drop-cons}
+use lib.ListN.{length, take, drop, set, length-append}
+use lib.Seq.{sets, length-sets, drop-drop}
+use borrow.Rule.Slice.PartMut.{put_mid}
+use Rattle.std.proofs.lemmas.List.Edits.{sets-eq}
 use Rattle.lines.specs.Written.{Room, Written}
 
 sets-append : (vs ws l : List ℕ) (i : ℕ) → sets l i (vs ++ ws) ≡ sets (sets l i vs) (i + length vs) ws
@@ -27,6 +28,11 @@ written_none l at = record { place = omega arith; bytes = refl }
 
 pub written-length : {xs a b : List ℕ} {at r : ℕ} → Written xs at a b r → length b ≡ length a
 written-length {xs} {a} {b} {at} w = ap length w.bytes ∙ length-sets a at xs
+
+-- a text that is copied as a whole
+pub written-copy : {xs ys a : List ℕ} {at n : ℕ} → Room xs at a → ys ≡ xs → n ≡ length xs → Written xs at a (put_mid at n a ys) (at + length xs)
+written-copy {xs} {ys} {a} {at} {n} h e k =
+    record { place = refl; bytes = rw (e, k, drop-drop (length xs) at a) (sym (sets-eq xs a at h.fits ∙ append_assoc (take at a) xs (drop (at + length xs) a))) }
 
 -- the same text under another name
 pub written_as : {xs ys a b : List ℕ} {at r : ℕ} → xs ≡ ys → Written xs at a b r → Written ys at a b r
@@ -77,17 +83,3 @@ module _ {whole left : List ℕ} {from at : ℕ} {lent out : List ℕ} (g : Goin
   -- all that is left is written
   pub going_done : {out' : List ℕ} {r : ℕ} → Written left at out out' r → Written whole from lent out' r
   going_done w = record { place = w.place ∙ g.place; bytes = w.bytes ∙ g.bytes }
-
--- the loop over bytes
-byte_next : (s : List ℕ) (i : ℕ) → i < length s → Splits (drop i s) (get_or s i 0 ∷ []) (drop (i + 1) s)
-byte_next s i h = record { is = rw (add-one i) (drop-cons s i 0 h) }
-
-module _ (s : List ℕ) (i : ℕ) {from at : ℕ} {lent out : List ℕ} (g : Going s (drop i s) from at lent out) where
-  pub bytes-room : i < length s → Room s from lent → Room (get_or s i 0 ∷ []) at out
-  bytes-room h k = room-first (byte_next s i h) (room-left g k)
-
-  pub bytes-turn : {out' : List ℕ} {r : ℕ} → i < length s → Written (get_or s i 0 ∷ []) at out out' r → Going s (drop (i + 1) s) from r lent out'
-  bytes-turn h w = going_on g (byte_next s i h) w
-
-  pub bytes-done : length s ≤ i → Written s from lent out at
-  bytes-done h = going_done g (written_as (sym (drop_of_length-le s h)) (written_none out at))

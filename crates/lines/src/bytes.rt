@@ -15,13 +15,9 @@ pub fn write_bytes(out: &mut [u8], start: usize, text: &[u8]) -> usize
     requires { Room text.now start out.old }
     ensures { Written text.now start out.old out.new result }
 {
-    let mut at = start;
-    let mut i = 0;
-    while i < text.len() {
-        at = write_byte(out, at, text[i]);
-        i += 1;
-    }
-    at
+    let end = start + text.len();
+    out[start..end].copy_from_slice(text);
+    end
 }
 
 // The end of a line of numbers: a 0 and an LF.

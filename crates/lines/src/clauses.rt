@@ -31,11 +31,9 @@ pub fn clause_size(clause: &[u16]) -> usize
     requires { length clause.now ≤ max_literals }
     ensures { Sized (clause_line clause.now) (7 * length clause.now + 2) result }
 {
-    let mut n: usize = 0;
-    let mut i = 0;
-    while i < clause.len() {
-        n += literal_size(clause[i]) + 1;
-        i += 1;
+    let mut n = 0;
+    for l in clause {
+        n += literal_size(*l) + 1;
     }
     n + 2
 }
@@ -45,11 +43,9 @@ pub fn write_clause(out: &mut [u8], start: usize, clause: &[u16]) -> usize
     ensures { Written (clause_line clause.now) start out.old out.new result }
 {
     let mut at = start;
-    let mut i = 0;
-    while i < clause.len() {
-        at = write_literal(out, at, clause[i]);
+    for l in clause {
+        at = write_literal(out, at, *l);
         at = write_byte(out, at, b' ');
-        i += 1;
     }
     write_end(out, at)
 }

@@ -13,13 +13,8 @@ pub fn largest_variable(prefix: &[u16]) -> u16
     ensures { result ≡ largest prefix.now }
 {
     let mut m: u16 = 0;
-    let mut i = 0;
-    while i < prefix.len() {
-        let v = prefix[i] / 2;
-        if m < v {
-            m = v;
-        }
-        i += 1;
+    for e in prefix {
+        m = m.max(*e / 2);
     }
     m
 }
@@ -61,17 +56,14 @@ pub fn write_prefix(out: &mut [u8], start: usize, prefix: &[u16]) -> usize
     requires { Room (prefix_lines prefix.now) start out.old }
     ensures { Written (prefix_lines prefix.now) start out.old out.new result }
 {
-    if prefix.len() == 0 {
+    let [first, rest @ ..] = prefix else {
         return start;
-    }
-    let mut last = prefix[0];
+    };
+    let mut last = *first;
     let mut at = write_first(out, start, last);
-    let mut i = 1;
-    while i < prefix.len() {
-        let e = prefix[i];
-        at = write_entry(out, at, last, e);
-        last = e;
-        i += 1;
+    for e in rest {
+        at = write_entry(out, at, last, *e);
+        last = *e;
     }
     write_end(out, at)
 }
@@ -89,17 +81,14 @@ pub fn prefix_size(prefix: &[u16]) -> usize
     requires { length prefix.now ≤ max_variables }
     ensures { Sized (prefix_lines prefix.now) (10 * length prefix.now) result }
 {
-    if prefix.len() == 0 {
+    let [first, rest @ ..] = prefix else {
         return 0;
-    }
-    let mut last = prefix[0];
+    };
+    let mut last = *first;
     let mut n = number_size(last / 2) + 3;
-    let mut i = 1;
-    while i < prefix.len() {
-        let e = prefix[i];
-        n += entry_size(last, e);
-        last = e;
-        i += 1;
+    for e in rest {
+        n += entry_size(last, *e);
+        last = *e;
     }
     n + 2
 }

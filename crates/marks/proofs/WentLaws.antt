@@ -14,9 +14,8 @@ use Rattle.table.specs.Table.{with_clause, with_new_clause, with_raw, Holds}
 use Rattle.table.specs.Answer.{Became}
 use Rattle.table.specs.Pending.{tidied_in}
 use Rattle.table.specs.declared.Counts.{Counts}
-use Rattle.table.specs.declared.Pending.{Pending}
-use Rattle.table.specs.declared.Pushed.{Pushed}
-use Rattle.table.specs.declared.Pushed.TheVariants.{Done, Full}
+use Rattle.std.specs.Prelude.{Option}
+use Rattle.std.specs.Prelude.{Some, None}
 use Rattle.meaning.proofs.Parts.{room_of}
 use Rattle.table.proofs.HoldLaws.{count-clauses}
 use Rattle.table.proofs.AnswerLaws.{unchanged, became-fits, became-full, pushed-clauses}
@@ -25,13 +24,13 @@ use Rattle.marks.specs.Marks.{Marks, Went}
 
 -- what was to be is there already
 stayed : {φ : Formula} {t : List ℕ} {c : Counts} → Holds φ t c → {m : List ℕ} → Marks φ.clauses m → (ψ : Formula) → ψ ≡ φ
-    → Went φ ψ c.second (Done c) t m
+    → Went φ ψ c.second (Some c) t m
 stayed h k ψ e = rw e (record { became = unchanged h _ refl; marks = rw h.fitting k })
 
 module _ {φ : Formula} {t : List ℕ} {c : Counts} (h : Holds φ t c) {m : List ℕ} (k : Marks φ.clauses m) (x : List ℕ) where
   -- One clause more: the table's answer was r, and the table is t' after it ----------------------------------------
-  module _ (r : Pushed) (t' : List ℕ) (b : Became φ (with_clause φ x) c.second r t') where
-    module _ (d : Counts) (e : r ≡ Done d) where
+  module _ (r : Option Counts) (t' : List ℕ) (b : Became φ (with_clause φ x) c.second r t') where
+    module _ (d : Counts) (e : r ≡ Some d) where
       there : fits (with_clause φ x) ≡ true
       there = became-fits _ _ _ _ _ b d e
 
@@ -39,36 +38,36 @@ module _ {φ : Formula} {t : List ℕ} {c : Counts} (h : Holds φ t c) {m : List
       push-few = omega (arith, (room_of (with_clause φ x) there).clauses, pushed-clauses φ x, count-clauses h)
 
       -- m' has the marks of one clause more
-      pub push-done : (m' : List ℕ) → Marks (φ.clauses ++ (x ∷ [])) m' → Went φ (with_clause φ x) c.second (Done d) t' m'
+      pub push-done : (m' : List ℕ) → Marks (φ.clauses ++ (x ∷ [])) m' → Went φ (with_clause φ x) c.second (Some d) t' m'
       push-done m' q =
           record {
-            became = subst (λ (r : Pushed). Became φ (with_clause φ x) c.second r t') e b;
+            became = subst (λ (r : Option Counts). Became φ (with_clause φ x) c.second r t') e b;
             marks = rw there (unfold with_clause in q);
           }
 
-    pub push-full : r ≡ Full → Went φ (with_clause φ x) c.second Full t' m
+    pub push-full : r ≡ None → Went φ (with_clause φ x) c.second None t' m
     push-full e =
         record {
-          became = subst (λ (r : Pushed). Became φ (with_clause φ x) c.second r t') e b;
+          became = subst (λ (r : Option Counts). Became φ (with_clause φ x) c.second r t') e b;
           marks = rw (became-full _ _ _ _ _ b e) k;
         }
 
   -- A clause that is there already, and one that is not -------------------------------------------------------------
-  pub went-there : any_of (same x) φ.clauses ≡ true → Went φ (with_new_clause φ x) c.second (Done c) t m
+  pub went-there : any_of (same x) φ.clauses ≡ true → Went φ (with_new_clause φ x) c.second (Some c) t m
   unfolding with_new_clause add_tidied
   went-there e = stayed h k (with_new_clause φ x) (rw e)
 
-  pub went-new : {r : Pushed} {t' m' : List ℕ} → any_of (same x) φ.clauses ≡ false
+  pub went-new : {r : Option Counts} {t' m' : List ℕ} → any_of (same x) φ.clauses ≡ false
       → Went φ (with_clause φ x) c.second r t' m' → Went φ (with_new_clause φ x) c.second r t' m'
   unfolding with_new_clause with_clause add_tidied
   went-new e w = rw e w
 
 -- A raw clause that is tidied: it is dropped, or added ---------------------------------------------------------------------
 module _ {φ : Formula} {t : List ℕ} {c : Counts} (h : Holds φ t c) {m : List ℕ} (k : Marks φ.clauses m)
-    (raw s : List ℕ) (p : Pending) (is : tidied_in s p ≡ tidy φ.prefix raw) where
-  pub close-both : p.both ≡ true → Went φ (with_raw φ raw) c.second (Done c) t m
+    (raw s : List ℕ) (p : Option ℕ) (is : tidied_in s p ≡ tidy φ.prefix raw) where
+  pub close-both : p ≡ None → Went φ (with_raw φ raw) c.second (Some c) t m
   close-both e = stayed h k (with_raw φ raw) (raw-both φ raw s p is e)
 
-  pub close-one : p.both ≡ false → (r : Pushed) (t' m' : List ℕ)
-      → Went φ (with_new_clause φ (take p.size s)) c.second r t' m' → Went φ (with_raw φ raw) c.second r t' m'
-  close-one e r t' m' w = rw (raw-one φ raw s p is e) w
+  pub close-one : (n : ℕ) → p ≡ Some n → (r : Option Counts) (t' m' : List ℕ)
+      → Went φ (with_new_clause φ (take n s)) c.second r t' m' → Went φ (with_raw φ raw) c.second r t' m'
+  close-one n e r t' m' w = rw (raw-one φ raw s p is n e) w

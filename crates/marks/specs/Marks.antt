@@ -8,7 +8,7 @@ use Rattle.meaning.specs.WellFormed.{fits}
 use Rattle.table.specs.Table.{table_length, Holds}
 use Rattle.table.specs.Answer.{Became}
 use Rattle.table.specs.declared.Counts.{Counts}
-use Rattle.table.specs.declared.Pushed.{Pushed}
+use Rattle.std.specs.Prelude.{Option}
 
 -- a prime; with a link for each of 2,047 clauses there is room for so many heads
 abbrev pub slots : ℕ
@@ -44,6 +44,6 @@ pub record Marked (t : List ℕ) (c : Counts) (m : List ℕ) : Type 0 where
   pub marks : Marks formula.clauses m
 
 -- φ was to become ψ, and the marks m go with it
-pub record Went (φ ψ : Formula) (second : Bool) (r : Pushed) (t m : List ℕ) : Type 0 where
+pub record Went (φ ψ : Formula) (second : Bool) (r : Option Counts) (t m : List ℕ) : Type 0 where
   pub became : Became φ ψ second r t
   pub marks : Marks (cond (fits ψ) ψ φ).clauses m

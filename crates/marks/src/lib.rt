@@ -11,7 +11,7 @@ ghost use Rattle.table.specs.Ranks.{ranks_of};
 ghost use Rattle.table.specs.Pending.{Pends, Pended};
 ghost use Rattle.marks.specs.Marks.{slots, slot_of, Marks, Marked, Went};
 
-use table::{Counts, Pending, Pushed, clause_at, equal, push_clause, tidy_in};
+use table::{Counts, Pending, Ranks, Scratch, clause_at, equal, push_clause, tidy_in};
 
 // How many heads there are. The links come after them.
 const SLOTS: usize = 9209;
@@ -21,10 +21,8 @@ fn slot_of(clause: &[u16]) -> usize
     ensures { result ≡ slot_of clause.now }
 {
     let mut h: usize = 0;
-    let mut i = 0;
-    while i < clause.len() {
-        h = (h * 5689 + clause[i] as usize) % SLOTS;
-        i += 1;
+    for literal in clause {
+        h = (h * 5689 + *literal as usize) % SLOTS;
     }
     h
 }
@@ -36,6 +34,7 @@ fn is_marked(t: &[u16], c: Counts, clause: &[u16], slot: usize, marks: &[u16]) -
     ensures { (φ : Formula) → Holds φ t.now c → Marks φ.clauses marks.now → result ≡ any_of (same clause.now) φ.clauses }
 {
     let mut k = marks[slot] as usize;
+    // Kept: a walk from link to link, which no range counts.
     while 0 < k {
         let i = k - 1;
         if equal(clause, clause_at(t, c, i)) {
@@ -58,29 +57,30 @@ fn add_mark(marks: &mut [u16], slot: usize, n: usize)
 }
 
 // The clause after the others, where the table has room for it, with its marks. It has this slot.
-fn push_marked(t: &mut [u16], c: Counts, clause: &[u16], slot: usize, marks: &mut [u16]) -> Pushed
+fn push_marked(
+    t: &mut [u16],
+    c: Counts,
+    clause: &[u16],
+    slot: usize,
+    marks: &mut [u16],
+) -> Option<Counts>
     requires marked { Marked t.old c marks.old }
     requires slot_value { slot ≡ slot_of clause.now }
     ensures { (φ : Formula) → Holds φ t.old c → Marks φ.clauses marks.old → Went φ (with_clause φ clause.now) c.second result t.new marks.new }
 {
-    match push_clause(t, c, clause) {
-        Pushed::Done(d) => {
-            let n = c.clauses;
-            add_mark(marks, slot, n);
-            Pushed::Done(d)
-        }
-        Pushed::Full => Pushed::Full,
-    }
+    let d = push_clause(t, c, clause)?;
+    add_mark(marks, slot, c.clauses);
+    Some(d)
 }
 
 // The clause after the others, unless an equal one is there.
-pub fn add_marked(t: &mut [u16], c: Counts, clause: &[u16], marks: &mut [u16]) -> Pushed
+pub fn add_marked(t: &mut [u16], c: Counts, clause: &[u16], marks: &mut [u16]) -> Option<Counts>
     requires { Marked t.old c marks.old }
     ensures { (φ : Formula) → Holds φ t.old c → Marks φ.clauses marks.old → Went φ (with_new_clause φ clause.now) c.second result t.new marks.new }
 {
     let slot = slot_of(clause);
     if is_marked(t, c, clause, slot, marks) {
-        return Pushed::Done(c);
+        return Some(c);
     }
     push_marked(t, c, clause, slot, marks)
 }
@@ -89,20 +89,17 @@ pub fn add_marked(t: &mut [u16], c: Counts, clause: &[u16], marks: &mut [u16]) -
 pub fn close_marked(
     t: &mut [u16],
     c: Counts,
-    scratch: &mut [u16],
+    scratch: &mut Scratch,
     p: Pending,
-    ranks: &[u16],
+    ranks: &Ranks,
     marks: &mut [u16],
-) -> Pushed
+) -> Option<Counts>
     requires marked { Marked t.old c marks.old }
     requires pended { Pended scratch.old p }
-    requires ranks_len { length ranks.now ≡ 1024 }
     ensures { (φ : Formula) (raw : List ℕ) → Holds φ t.old c → good_prefix φ.prefix ≡ true → ranks.now ≡ ranks_of φ.prefix → Pends raw scratch.old p → Marks φ.clauses marks.old → Went φ (with_raw φ raw) c.second result t.new marks.new }
 {
-    let q = tidy_in(scratch, p, ranks);
-    if q.both {
-        return Pushed::Done(c);
+    match tidy_in(scratch, p, ranks) {
+        Some(m) => add_marked(t, c, &scratch[..m], marks),
+        None => Some(c),
     }
-    let m = q.size;
-    add_marked(t, c, &scratch[..m], marks)
 }

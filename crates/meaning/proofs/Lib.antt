@@ -1,5 +1,6 @@
 pub mod Basics
 pub mod Lists
+pub mod StdLists
 pub mod Folds
 pub mod Game
 pub mod Blocks

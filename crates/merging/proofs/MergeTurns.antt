@@ -15,7 +15,9 @@ use Rattle.meaning.specs.Tidy.{ascending, both_phases}
 use Rattle.table.specs.Pending.{Pends}
 use Rattle.merging.specs.Merging.{head_of, joined, Ordered, Partway, Merges}
 use Rattle.merging.specs.declared.Merging.{Merging}
-use Rattle.meaning.proofs.Basics.{by_cases, clash, false_of}
+use Rattle.std.specs.Prelude.{Some, None}
+use Rattle.meaning.proofs.Basics.{by_cases}
+use Rattle.table.proofs.PendingLaws.{pends-none, pends-some}
 use Rattle.table.proofs.SortLaws.{both-ascending}
 use Rattle.merging.proofs.MergeLaws.{turned, pass-first, put_first, put_same, both-met, put-room, first-there, head-none, merged-all, above-none, joined-range}
 
@@ -47,38 +49,33 @@ module _ (o : ℕ) (x y s : List ℕ) (m : Merging) (h : Merges o x y s m) (low 
   abbrev n : ℕ
   n = m.size
 
-  one-phase : m.both ≡ false
-  one-phase = false_of m.both (λ t. omega (arith, h.ended t))
-
   part : Partway (joined o (o + 1) x y) (take n s) n o (o + 1) (drop i x) (drop j y)
-  part = h.single one-phase
+  part = h.part
 
   -- whatever the next turn leaves
   later : (i' j' n' : ℕ) (s' : List ℕ) → length s' ≡ 1023 → n' ≤ 1023 → i' ≤ length x → j' ≤ length y
       → Partway (joined o (o + 1) x y) (take n' s') n' o (o + 1) (drop i' x) (drop j' y)
-      → Merges o x y s' (record { first = i'; second = j'; size = n'; both = false })
+      → Merges o x y s' (record { first = i'; second = j'; size = n' })
   later i' j' n' s' r w f g p =
       record {
         room = r;
         within = w;
         first = f;
         second = g;
-        single = λ e. p;
-        double = λ e. clash e refl;
-        ended = λ e. clash e refl;
+        part = p;
       }
 
   written : (l : ℕ) → n < 1023 → take (n + 1) (set s n l) ≡ take n s ++ (l ∷ [])
   written l r = rw (add-one n) (take-suc-set s n l (omega (arith, h.room)))
 
   module _ (l : ℕ) (is : l ≡ head_of (drop i x)) where
-    pub pass-one : l ≡ o → Merges o x y s (record { first = i + 1; second = j; size = n; both = false })
+    pub pass-one : l ≡ o → Merges o x y s (record { first = i + 1; second = j; size = n })
     pass-one e =
         later (i + 1) j n s h.room h.within (omega (arith, there x i (omega arith))) h.second
         (rw (after_one x i) at (pass-first _ _ n o (o + 1) (drop i x) (drop j y) part (sym is ∙ e) (omega arith)))
 
   module _ (k : ℕ) (is : k ≡ head_of (drop j y)) where
-    pub pass-other : k ≡ o + 1 → Merges o x y s (record { first = i; second = j + 1; size = n; both = false })
+    pub pass-other : k ≡ o + 1 → Merges o x y s (record { first = i; second = j + 1; size = n })
     pass-other e =
         later i (j + 1) n s h.room h.within h.first (omega (arith, there y j (omega arith)))
         (turned _ _ n (o + 1) o (drop (j + 1) y) (drop i x)
@@ -96,7 +93,7 @@ module _ (o : ℕ) (x y s : List ℕ) (m : Merging) (h : Merges o x y s m) (low 
       pub one-room : n < 1023
       one-room = put-room _ _ n o (o + 1) (drop i x) (drop j y) part first-here
 
-      pub put_one : (l ≡ o → ⊥) → Merges o x y (set s n l) (record { first = i + 1; second = j; size = n + 1; both = false })
+      pub put_one : (l ≡ o → ⊥) → Merges o x y (set s n l) (record { first = i + 1; second = j; size = n + 1 })
       put_one u =
           later (i + 1) j (n + 1) (set s n l) (length-set s n l ∙ h.room) (omega (arith, one-room)) (omega (arith, there x i first-here)) h.second
           (rw (written l one-room, is-l, ← after_one x i) (put_first _ _ n o (o + 1) (drop i x) (drop j y) part lower (λ e. u (is-l ∙ e))))
@@ -115,7 +112,7 @@ module _ (o : ℕ) (x y s : List ℕ) (m : Merging) (h : Merges o x y s m) (low 
       pub other-room : n < 1023
       other-room = put-room _ _ n (o + 1) o (drop j y) (drop i x) back other-here
 
-      pub put_other : (k ≡ o + 1 → ⊥) → Merges o x y (set s n k) (record { first = i; second = j + 1; size = n + 1; both = false })
+      pub put_other : (k ≡ o + 1 → ⊥) → Merges o x y (set s n k) (record { first = i; second = j + 1; size = n + 1 })
       put_other u =
           later i (j + 1) (n + 1) (set s n k) (length-set s n k ∙ h.room) (omega (arith, other-room)) h.first (omega (arith, there y j other-here))
           (rw (written k other-room, is-k, ← after_one y j)
@@ -139,56 +136,44 @@ module _ (o : ℕ) (x y s : List ℕ) (m : Merging) (h : Merges o x y s m) (low 
       pub both-room : n < 1023
       both-room = put-room _ _ n o (o + 1) (drop i x) (drop j y) part some-here
 
-      pub put_both : (l ≡ o → ⊥) → (k ≡ o + 1 → ⊥) → Merges o x y (set s n l) (record { first = i + 1; second = j + 1; size = n + 1; both = false })
+      pub put_both : (l ≡ o → ⊥) → (k ≡ o + 1 → ⊥) → Merges o x y (set s n l) (record { first = i + 1; second = j + 1; size = n + 1 })
       put_both u v =
           later (i + 1) (j + 1) (n + 1) (set s n l) (length-set s n l ∙ h.room) (omega (arith, both-room)) (omega (arith, there x i some-here))
           (omega (arith, there y j (omega (arith, some-here))))
           (rw (written l both-room, is-l, ← after_one x i, ← after_one y j)
           (put_same _ _ n o (o + 1) (drop i x) (drop j y) part (sym is-l ∙ same ∙ is-k) some-here (λ e. u (is-l ∙ e)) (λ e. v (is-k ∙ e))))
 
-    pub met-both : l / 2 ≡ k / 2 → (l ≡ k → ⊥) → (l ≡ o → ⊥) → (k ≡ o + 1 → ⊥)
-        → Merges o x y s (record { first = length x; second = length y; size = n; both = true })
+    -- both phases of a variable meet
+    pub met-both : l / 2 ≡ k / 2 → (l ≡ k → ⊥) → (l ≡ o → ⊥) → (k ≡ o + 1 → ⊥) → both_phases (joined o (o + 1) x y) ≡ true
     unfolding var
     met-both e w u v =
-        record {
-          room = h.room;
-          within = h.within;
-          first = omega arith;
-          second = omega arith;
-          single = λ z. clash refl z;
-          double = λ z. both-met _ _ n o (o + 1) (drop i x) (drop j y) part vars (λ d. w (is-l ∙ d ∙ sym is-k)) (λ d. u (is-l ∙ d)) (λ d. v (is-k ∙ d));
-          ended = λ z. omega arith;
-        }
+        both-met _ _ n o (o + 1) (drop i x) (drop j y) part vars (λ d. w (is-l ∙ d ∙ sym is-k)) (λ d. u (is-l ∙ d)) (λ d. v (is-k ∙ d))
       where
         vars : var (head_of (drop i x)) ≡ var (head_of (drop j y))
         vars = ap var (sym is-l) ∙ e ∙ ap var is-k
 
 -- The start and the end ------------------------------------------------------------------------------------------------------
-pub merge-start : (o : ℕ) (x y s : List ℕ) → length s ≡ 1023 → Ordered x → Ordered y → Merges o x y s (record { first = 0; second = 0; size = 0; both = false })
+pub merge-start : (o : ℕ) (x y s : List ℕ) → length s ≡ 1023 → Ordered x → Ordered y → Merges o x y s (record { first = 0; second = 0; size = 0 })
 merge-start o x y s r a b =
     record {
       room = r;
       within = omega arith;
       first = omega arith;
       second = omega arith;
-      single = λ e. record { one = above-none x a; other = above-none y b; sorted = refl; phases = sym (both-ascending (joined o (o + 1) x y)) };
-      double = λ e. clash e refl;
-      ended = λ e. clash e refl;
+      part = record { one = above-none x a; other = above-none y b; sorted = refl; phases = sym (both-ascending (joined o (o + 1) x y)) };
     }
 
+-- the raw clause is dropped, since both phases of a variable met
+pub merge-dropped : (o : ℕ) (x y s : List ℕ) → length s ≡ 1023 → Ordered x → Ordered y → both_phases (joined o (o + 1) x y) ≡ true
+    → Pends (joined o (o + 1) x y) s None
+merge-dropped o x y s r a b e = pends-none r (joined-range o (o + 1) x y a.range b.range) e
+
 pub merge-end : (o : ℕ) (x y s : List ℕ) (m : Merging) → Merges o x y s m → length x + length y ≤ m.first + m.second → Ordered x → Ordered y
-    → Pends (joined o (o + 1) x y) s (record { size = m.size; both = m.both })
-merge-end o x y s m h e a b =
-    record {
-      room = h.room;
-      within = h.within;
-      range = joined-range o (o + 1) x y a.range b.range;
-      phases = by_cases m.both (λ t. t ∙ sym (h.double t)) (λ t. t ∙ sym (all t).1);
-      sorted = λ t. sym (all t).0;
-    }
+    → Pends (joined o (o + 1) x y) s (Some m.size)
+merge-end o x y s m h e a b = pends-some m.size h.room h.within (joined-range o (o + 1) x y a.range b.range) all.1 (sym all.0)
   where
-    all : m.both ≡ false → (ascending (joined o (o + 1) x y) ≡ take m.size s) × (both_phases (joined o (o + 1) x y) ≡ false)
-    all t =
+    all : (ascending (joined o (o + 1) x y) ≡ take m.size s) × (both_phases (joined o (o + 1) x y) ≡ false)
+    all =
         merged-all _ _ m.size o (o + 1)
         (rw (drop_of_length-le x {i = m.first} (omega (arith, h.first, h.second)), drop_of_length-le y {i = m.second} (omega (arith, h.first, h.second)))
-        at (h.single t))
+        at h.part)

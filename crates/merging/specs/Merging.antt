@@ -1,6 +1,6 @@
 -- Two clauses that are merged into one ascending list, literal by literal.
 -- Assumes nothing.
-use Rattle.std.specs.Prelude.{◌≡◌, ℕ, ◌+◌, ◌≤◌, true, false, List, [], ◌∷◌, ◌++◌, ltb, length, take, drop}
+use Rattle.std.specs.Prelude.{◌≡◌, ℕ, ◌+◌, ◌≤◌, true, List, [], ◌∷◌, ◌++◌, ltb, length, take, drop}
 use Rattle.meaning.specs.Lists.{all_of, without}
 use Rattle.meaning.specs.Formula.{var}
 use Rattle.meaning.specs.Tidy.{ascending, both_phases}
@@ -35,14 +35,10 @@ pub record Partway (raw front : List ℕ) (n o k : ℕ) (x y : List ℕ) : Type 
   pub sorted : ascending raw ≡ front ++ ascending (joined o k x y)
   pub phases : both_phases raw ≡ both_phases (ascending (joined o k x y))
 
--- The two clauses x and y on their way into the scratch s, without the literals o of x and o + 1 of y. Once a variable has both phases
--- nothing is left to do.
+-- The two clauses x and y on their way into the scratch s, without the literals o of x and o + 1 of y.
 pub record Merges (o : ℕ) (x y s : List ℕ) (m : Merging) : Type 0 where
   pub room : length s ≡ 1023
   pub within : m.size ≤ 1023
   pub first : m.first ≤ length x
   pub second : m.second ≤ length y
-  pub single : m.both ≡ false
-      → Partway (joined o (o + 1) x y) (take m.size s) m.size o (o + 1) (drop m.first x) (drop m.second y)
-  pub double : m.both ≡ true → both_phases (joined o (o + 1) x y) ≡ true
-  pub ended : m.both ≡ true → length x + length y ≤ m.first + m.second
+  pub part : Partway (joined o (o + 1) x y) (take m.size s) m.size o (o + 1) (drop m.first x) (drop m.second y)

@@ -46,10 +46,6 @@ module _ {φ : Formula} {t : List ℕ} {c : Counts} (h : Holds φ t c) where
     unfolding clause_at
     literal-absent n = sym (ap (λ (l : List ℕ). get_or l k 0) (get_or-eq_default φ.clauses [] {n = a} (omega (arith, count-clauses h))))
 
-    pub literal-short : (x : List ℕ) → x ≡ get_or φ.clauses a [] → length x ≤ k → 0 ≡ get_or (clause_at φ.clauses a) k 0
-    unfolding clause_at
-    literal-short x e n = rw (← e) (sym (get_or-eq_default x 0 {n = k} n))
-
     pub literal-is : (x : List ℕ) → x ≡ get_or φ.clauses a [] → get_or x k 0 ≡ get_or (clause_at φ.clauses a) k 0
     unfolding clause_at
     literal-is x e = rw (← e)

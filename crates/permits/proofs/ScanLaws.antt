@@ -46,6 +46,6 @@ module _ (p : List ℕ) (i : ℕ) (h : length p ≤ i) where
   unfolding universals_first
   first-end = rw (drop_of_length-le p {i = i} h)
 
-  pub from_end : from_universal (drop i p) ≡ drop i p
+  pub from_end : from_universal (drop i p) ≡ drop (length p) p
   unfolding from_universal
-  from_end = rw (drop_of_length-le p {i = i} h)
+  from_end = rw (drop_of_length-le p {i = i} h, drop_of_length-le p {i = length p} (omega arith))

@@ -1,10 +1,10 @@
 -- Steps 6 and 7, resolve and expand: their conditions by places.
 -- Assumes nothing.
-use Prim.Native.Nat.{ℕ, ◌+◌, ◌/◌, ◌≤◌, ◌<◌}
+use Prim.Native.Nat.{ℕ, ◌<◌}
 use mathlib.Core.Path.{◌≡◌, refl, sym, ap, ◌∙◌}
 use mathlib.Core.Bool.{Bool, true, false, ◌&&◌, ◌||◌, not}
 use mathlib.Core.List.{List}
-use lib.ListN.{length, get_or, drop}
+use lib.ListN.{drop}
 use lib.Dec.{ltb, leb}
 use borrow.Author.Tests.{le-leb, lt-leb, ltb-true, ltb-false}
 use Rattle.meaning.specs.Lists.{all_of, keep_if, has}
@@ -18,24 +18,10 @@ use Rattle.meaning.proofs.Lists.{all_keep, all-agree}
 use Rattle.meaning.proofs.Literals.{var-of-plain, var-of-negated}
 use Rattle.meaning.proofs.Prefix.{exists-mentioned, forall-mentioned, not-existential}
 use Rattle.meaning.proofs.Parts.{good_of, bound_all}
-use Rattle.table.proofs.LoopLaws.{all-fails, all-turn, all_end}
 use Rattle.permits.proofs.AndLaws.{and_none}
 use Rattle.permits.proofs.PlaceLaws.{large-out, place-right, behind}
 
--- The loop over a clause ----------------------------------------------------------------------------------------
-module _ (p s : List ℕ) (n i : ℕ) (inv : within p n s ≡ within p n (drop i s)) (m : ℕ) (at : m ≡ place_of p (get_or s i 0 / 2)) where
-  pub within-fails : i < length s → n < m → false ≡ within p n s
-  unfolding within var
-  within-fails h k = all-fails (λ l. leb (place_of p (var l)) n) 0 s i inv h (rw (← at) (lt-leb m n k))
-
-  pub within-turn : i < length s → m ≤ n → within p n s ≡ within p n (drop (i + 1) s)
-  unfolding within var
-  within-turn h k = all-turn (λ l. leb (place_of p (var l)) n) 0 s i inv h (rw (← at) (le-leb m n k))
-
-pub within_end : (p s : List ℕ) (n i : ℕ) → within p n s ≡ within p n (drop i s) → length s ≤ i → true ≡ within p n s
-unfolding within
-within_end p s n i inv h = all_end (λ l. leb (place_of p (var l)) n) 0 s i inv h
-
+-- A clause that has the literal, and one that has it not --------------------------------------------------------
 module _ (p x : List ℕ) (l n : ℕ) (t : Bool) (is : t ≡ has l x) where
   pub near-has : t ≡ true → (r : Bool) → r ≡ within p n x → r ≡ near p l n x
   unfolding near

@@ -1,21 +1,19 @@
 -- Step 4, strengthen: the loops over a clause, and the first literal that strengthens the other.
 -- Assumes nothing.
-use Prim.Native.Nat.{ℕ, ◌+◌, ◌/◌, ◌≤◌, ◌<◌}
-use mathlib.Core.Path.{◌≡◌, refl, sym, ap, ◌∙◌}
+use Prim.Native.Nat.{ℕ, ◌/◌, ◌≤◌, ◌<◌}
+use mathlib.Core.Path.{◌≡◌, refl, ap}
 use mathlib.Core.Bool.{Bool, true, false, ◌&&◌, ◌||◌, not, cond}
 use mathlib.Core.List.{List, [], ◌∷◌}
-use lib.ListN.{length, get_or, drop, drop_of_length-le}
-use lib.Seq.{drop-cons}
+use lib.ListN.{get_or}
 use lib.Dec.{eqb}
-use native.Mathlib.Numerals.{add-one}
+use Rattle.std.specs.List.{find}
 use Rattle.meaning.specs.Lists.{any_of, all_of, keep_if, has, part_of, without, first_passing}
 use Rattle.meaning.specs.Formula.{Formula, var, opposite, existential}
 use Rattle.table.specs.Table.{Holds}
 use Rattle.table.specs.declared.Counts.{Counts}
 use Rattle.rules.specs.Simplify.{clause_at, strengthens, strengthen_permitted, strengthen_lit}
 use Rattle.permits.specs.Choices.{strengthening_of, first_by, is_or_in}
-use Rattle.permits.specs.declared.Strengthens.{Strengthens}
-use Rattle.permits.specs.declared.Strengthens.TheVariants.{By, No}
+use Rattle.std.specs.Prelude.{Option, Some, None}
 use Rattle.meaning.proofs.Basics.{eqb-eq, eqb-ne}
 use Rattle.permits.proofs.AndLaws.{and_second, and_none}
 use Rattle.permits.proofs.ClauseLaws.{absent, present}
@@ -56,28 +54,24 @@ module _ (p x y : List ℕ) (l : ℕ) (e : Bool) (is : e ≡ existential p (l / 
     strengthens-is n r q = rest r (and_second (has o y) (part_of (without l x) y) h r in-y n q)
 
 -- the first
-module _ (f : ℕ → Bool) (s : List ℕ) (i : ℕ) (inv : first_by f s ≡ first_by f (drop i s)) where
-  pub first_found : i < length s → f (get_or s i 0) ≡ true → By (get_or s i 0) ≡ first_by f s
-  unfolding first_by any_of first_passing
-  first_found h e = sym (inv ∙ rw (drop-cons s i 0, e))
-
-  pub first-turn : i < length s → f (get_or s i 0) ≡ false → first_by f s ≡ first_by f (drop (i + 1) s)
-  unfolding first_by any_of first_passing
-  first-turn h e = inv ∙ rw (add-one, drop-cons s i 0, e)
-
-  pub first-end : length s ≤ i → No ≡ first_by f s
-  unfolding first_by any_of
-  first-end h = sym (inv ∙ rw (drop_of_length-le s {i = i} h))
+pub first-find : (f : ℕ → Bool) (s : List ℕ) → find f s ≡ first_by f s
+unfolding first_by any_of first_passing
+first-find f [] = refl
+first-find f (x ∷ s) = go (f x) (first-find f s)
+  where
+    go : (b : Bool) → find f s ≡ cond (any_of f s) (Some (first_passing f s)) None → cond b (Some x) (find f s) ≡ cond (b || any_of f s) (Some (cond b x (first_passing f s))) None
+    go true ih = refl
+    go false ih = ih
 
 module _ {φ : Formula} {t : List ℕ} {c : Counts} (h : Holds φ t c) (a b : ℕ) where
-  pub strengthen-no-a : c.clauses ≤ a → No ≡ strengthening_of φ a b
+  pub strengthen-no-a : c.clauses ≤ a → None ≡ strengthening_of φ a b
   unfolding strengthening_of strengthen_permitted
   strengthen-no-a k = rw (absent h a k)
 
-  pub strengthen-no-b : a < c.clauses → c.clauses ≤ b → No ≡ strengthening_of φ a b
+  pub strengthen-no-b : a < c.clauses → c.clauses ≤ b → None ≡ strengthening_of φ a b
   unfolding strengthening_of strengthen_permitted
   strengthen-no-b k n = rw (present h a k, absent h b n)
 
-  pub strengthen-is : a < c.clauses → b < c.clauses → (x y : List ℕ) → x ≡ get_or φ.clauses a [] → y ≡ get_or φ.clauses b [] → (r : Strengthens) → r ≡ first_by (strengthens φ.prefix x y) x → r ≡ strengthening_of φ a b
+  pub strengthen-is : a < c.clauses → b < c.clauses → (x y : List ℕ) → x ≡ get_or φ.clauses a [] → y ≡ get_or φ.clauses b [] → (r : Option ℕ) → r ≡ first_by (strengthens φ.prefix x y) x → r ≡ strengthening_of φ a b
   unfolding strengthening_of strengthen_permitted strengthen_lit clause_at first_by
   strengthen-is k n x y e f r q = rw (present h a k, present h b n, ← e, ← f) q

@@ -1,11 +1,9 @@
 -- What a permitted step takes from its formula: literals, in steps 2, 4 and 5.
 -- Assumes nothing.
-use Rattle.std.specs.Prelude.{ℕ, Bool, ◌||◌, cond, List, eqb, get_or}
+use Rattle.std.specs.Prelude.{ℕ, Bool, ◌||◌, cond, List, eqb, get_or, Option, Some, None}
 use Rattle.meaning.specs.Lists.{any_of, has, first_passing}
 use Rattle.meaning.specs.Formula.{Formula, var, opposite, mentions, universal, right_of}
 use Rattle.rules.specs.Simplify.{clause_at, pure_lit, strengthen_permitted, strengthen_lit}
-use Rattle.permits.specs.declared.Strengthens.{Strengthens}
-use Rattle.permits.specs.declared.Strengthens.TheVariants.{By, No}
 use Rattle.permits.specs.declared.Replacement.{Replacement}
 
 -- "Existential in one phase only: that literal becomes true. Universal in one phase only: that literal becomes false."
@@ -13,11 +11,11 @@ unfoldable pub pure_true : Formula → ℕ → ℕ
 pure_true φ a = cond (universal φ.prefix a) (opposite (pure_lit φ.clauses a)) (pure_lit φ.clauses a)
 
 -- the literal by which clause b is strengthened, where that is permitted; the first of a clause that passes a test
-unfoldable pub strengthening_of : Formula → ℕ → ℕ → Strengthens
-strengthening_of φ a b = cond (strengthen_permitted φ a b) (By (strengthen_lit φ a b)) No
+unfoldable pub strengthening_of : Formula → ℕ → ℕ → Option ℕ
+strengthening_of φ a b = cond (strengthen_permitted φ a b) (Some (strengthen_lit φ a b)) None
 
-unfoldable pub first_by : (ℕ → Bool) → List ℕ → Strengthens
-first_by f c = cond (any_of f c) (By (first_passing f c)) No
+unfoldable pub first_by : (ℕ → Bool) → List ℕ → Option ℕ
+first_by f c = cond (any_of f c) (Some (first_passing f c)) None
 
 -- k is l, or in the clause d
 unfoldable pub is_or_in : ℕ → List ℕ → ℕ → Bool

@@ -1,3 +1,4 @@
 pub mod Calls
 pub mod Places
 pub mod Choices
+pub mod Variables

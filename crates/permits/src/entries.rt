@@ -1,26 +1,26 @@
 // Log entries: 32 bits, most significant first: kind 3, a 11, b 11, seven zeros.
-ghost use Rattle.std.specs.Prelude.{◌≡◌, ◌<◌, cond, eqb};
+ghost use Rattle.std.specs.Prelude.{◌≡◌, ◌<◌, cond, eqb, Some, None};
 ghost use Rattle.rules.specs.Entry.{Kind, code, entry, read_entry};
-ghost use Rattle.permits.specs.Calls.{called};
+ghost use Rattle.permits.specs.Calls.{call_read};
 
 use crate::Call;
 
 // The call, in a kind that has no use for b.
-fn alone(call: Call, b: usize) -> Call
-    ensures { result ≡ cond (eqb b 0) call Call.Bad }
+fn alone(call: Call, b: usize) -> Option<Call>
+    ensures { result ≡ cond (eqb b 0) (Some call) None }
 {
     if b == 0 {
-        return call;
+        return Some(call);
     }
-    Call::Bad
+    None
 }
 
-// What an entry says.
-pub fn read_entry(e: u32) -> Call
-    ensures { called result ≡ read_entry e }
+// The call that an entry says; none where the entry is bad.
+pub fn read_entry(e: u32) -> Option<Call>
+    ensures { call_read result ≡ read_entry e }
 {
     if e % 128 != 0 {
-        return Call::Bad;
+        return None;
     }
     let kind = e / 536870912;
     let a = (e / 262144 % 2048) as usize;
@@ -28,12 +28,12 @@ pub fn read_entry(e: u32) -> Call
     match kind {
         1 => alone(Call::Unit(a), b),
         2 => alone(Call::Pure(a), b),
-        3 => Call::Subsume(a, b),
-        4 => Call::Strengthen(a, b),
-        5 => Call::Equality(a, b),
+        3 => Some(Call::Subsume(a, b)),
+        4 => Some(Call::Strengthen(a, b)),
+        5 => Some(Call::Equality(a, b)),
         6 => alone(Call::Resolve(a), b),
         7 => alone(Call::Expand(a), b),
-        _ => Call::Bad,
+        _ => None,
     }
 }
 

@@ -1,5 +1,5 @@
 // Step 5, equality: a pair of clauses that says that two literals are equal.
-ghost use Rattle.std.specs.Prelude.{◌≡◌, ℕ, true, length};
+ghost use Rattle.std.specs.Prelude.{◌≡◌, ℕ, true};
 ghost use Rattle.meaning.specs.Formula.{Formula};
 ghost use Rattle.meaning.specs.WellFormed.{well_formed};
 ghost use Rattle.rules.specs.Simplify.{opposite_pair, equality_permitted};
@@ -10,7 +10,7 @@ ghost use Rattle.permits.specs.Choices.{replacement_of};
 use crate::Replacement;
 use crate::ranks::place_of;
 use crate::units::literal_at;
-use table::{Counts, clause_at, flip};
+use table::{Counts, Ranks, clause_at, flip};
 
 // Whether both have two literals, each the other's negated.
 fn opposite_pair(x: &[u16], y: &[u16]) -> bool
@@ -22,10 +22,7 @@ fn opposite_pair(x: &[u16], y: &[u16]) -> bool
     if y.len() != 2 {
         return false;
     }
-    if y[0] != flip(x[0]) {
-        return false;
-    }
-    y[1] == flip(x[1])
+    y[0] == flip(x[0]) && y[1] == flip(x[1])
 }
 
 // Whether a comes before b, and they are such a pair.
@@ -43,9 +40,8 @@ pub fn equality_permitted(t: &[u16], c: Counts, a: usize, b: usize) -> bool
 }
 
 // Which literal of clause a is replaced, and by what: that of the variable further right, by the other's opposite.
-pub fn replacement_of(t: &[u16], c: Counts, ranks: &[u16], a: usize) -> Replacement
+pub fn replacement_of(t: &[u16], c: Counts, ranks: &Ranks, a: usize) -> Replacement
     requires held { Held t.now c }
-    requires ranks_len { length ranks.now ≡ 1024 }
     ensures { (φ : Formula) → Holds φ t.now c → well_formed φ ≡ true → ranks.now ≡ ranks_of φ.prefix → (b : ℕ) → equality_permitted φ a b ≡ true → result ≡ replacement_of φ a }
 {
     let k = literal_at(t, c, a, 0);

@@ -1,5 +1,5 @@
 // Step 7, expand.
-ghost use Rattle.std.specs.Prelude.{◌≡◌, true, length, drop};
+ghost use Rattle.std.specs.Prelude.{◌≡◌, true, drop};
 ghost use Rattle.meaning.specs.Formula.{Formula};
 ghost use Rattle.meaning.specs.WellFormed.{well_formed};
 ghost use Rattle.rules.specs.Eliminate.{all_exist, universals_first, expand_permitted};
@@ -7,18 +7,16 @@ ghost use Rattle.table.specs.Table.{Holds, Held};
 ghost use Rattle.table.specs.Ranks.{ranks_of};
 
 use crate::ranks::{is_universal, place_of};
-use table::Counts;
+use table::{Counts, Ranks};
 
 // Whether all entries from an index on are existential.
 fn all_exist(prefix: &[u16], from: usize) -> bool
     ensures { result ≡ all_exist (drop from prefix.now) }
 {
-    let mut i = from;
-    while i < prefix.len() {
+    for i in from..prefix.len() {
         if prefix[i] % 2 == 1 {
             return false;
         }
-        i += 1;
     }
     true
 }
@@ -27,25 +25,18 @@ fn all_exist(prefix: &[u16], from: usize) -> bool
 fn universals_first(prefix: &[u16], from: usize) -> bool
     ensures { result ≡ universals_first (drop from prefix.now) }
 {
-    let mut i = from;
-    while i < prefix.len() {
+    for i in from..prefix.len() {
         if prefix[i] % 2 == 0 {
             return all_exist(prefix, i + 1);
         }
-        i += 1;
     }
     true
 }
 
 // Whether a is a universal, with no existential followed by a universal to its right.
-pub fn expand_permitted(t: &[u16], c: Counts, ranks: &[u16], a: usize) -> bool
+pub fn expand_permitted(t: &[u16], c: Counts, ranks: &Ranks, a: usize) -> bool
     requires held { Held t.now c }
-    requires ranks_len { length ranks.now ≡ 1024 }
     ensures { (φ : Formula) → Holds φ t.now c → well_formed φ ≡ true → ranks.now ≡ ranks_of φ.prefix → result ≡ expand_permitted φ a }
 {
-    if is_universal(ranks, a) {
-        let n = c.variables;
-        return universals_first(&t[..n], place_of(ranks, a));
-    }
-    false
+    is_universal(ranks, a) && universals_first(&t[..c.variables], place_of(ranks, a))
 }

@@ -11,6 +11,7 @@ mod resolution;
 mod strengthening;
 mod subsumption;
 mod units;
+mod variables;
 
 pub use entries::{entry_of, read_entry};
 pub use equalities::{equality_permitted, replacement_of};
@@ -22,11 +23,11 @@ pub use resolution::{first_universal, is_within, resolve_permitted};
 pub use strengthening::strengthening_of;
 pub use subsumption::subsume_permitted;
 pub use units::{literal_at, unit_literal, unit_permitted};
+pub use variables::{count_existentials, has_variable};
 
-// What a log entry says: it is bad, or it calls a step.
+// The step that a log entry calls.
 #[derive(Clone, Copy)]
 pub enum Call {
-    Bad,
     Unit(usize),
     Pure(usize),
     Subsume(usize, usize),
@@ -34,13 +35,6 @@ pub enum Call {
     Equality(usize, usize),
     Resolve(usize),
     Expand(usize),
-}
-
-// By which literal of the first clause the second is strengthened.
-#[derive(Clone, Copy)]
-pub enum Strengthens {
-    By(u16),
-    No,
 }
 
 // A literal, and the one that it becomes everywhere.

@@ -11,12 +11,10 @@ pub fn occurs(t: &[u16], c: Counts, literal: u16) -> bool
     requires { Held t.now c }
     ensures { (φ : Formula) → Holds φ t.now c → result ≡ rules.occurs literal φ.clauses }
 {
-    let mut i = 0;
-    while i < c.clauses {
+    for i in 0..c.clauses {
         if contains(clause_at(t, c, i), literal) {
             return true;
         }
-        i += 1;
     }
     false
 }

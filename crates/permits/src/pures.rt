@@ -1,5 +1,5 @@
 // Step 2, pure.
-ghost use Rattle.std.specs.Prelude.{◌≡◌, true, ◌&&◌, length, ◌<◌};
+ghost use Rattle.std.specs.Prelude.{◌≡◌, true, ◌&&◌, ◌<◌};
 ghost use Rattle.meaning.specs.Formula.{Formula, plain, negated};
 ghost use Rattle.meaning.specs.WellFormed.{well_formed};
 ghost use Rattle.rules.specs.Simplify as rules;
@@ -9,7 +9,7 @@ ghost use Rattle.permits.specs.Choices.{pure_true};
 
 use crate::occurrences::occurs;
 use crate::ranks::{in_prefix, is_universal};
-use table::{Counts, flip};
+use table::{Counts, Ranks, flip};
 
 // Whether both literals of a variable occur.
 fn both_occur(t: &[u16], c: Counts, a: usize) -> bool
@@ -18,25 +18,18 @@ fn both_occur(t: &[u16], c: Counts, a: usize) -> bool
     ensures { (φ : Formula) → Holds φ t.now c → result ≡ (rules.occurs (plain a) φ.clauses && rules.occurs (negated a) φ.clauses) }
 {
     let literal = 2 * a as u16;
-    if occurs(t, c, literal) {
-        return occurs(t, c, literal + 1);
-    }
-    false
+    occurs(t, c, literal) && occurs(t, c, literal + 1)
 }
 
 // Whether a is a variable of the prefix that occurs in at most one phase.
-pub fn pure_permitted(t: &[u16], c: Counts, ranks: &[u16], a: usize) -> bool
+pub fn pure_permitted(t: &[u16], c: Counts, ranks: &Ranks, a: usize) -> bool
     requires held { Held t.now c }
-    requires ranks_len { length ranks.now ≡ 1024 }
     ensures { (φ : Formula) → Holds φ t.now c → well_formed φ ≡ true → ranks.now ≡ ranks_of φ.prefix → result ≡ rules.pure_permitted φ a }
 {
     if Counts::VARIABLES < a {
         return false;
     }
-    if in_prefix(ranks, a) {
-        return !both_occur(t, c, a);
-    }
-    false
+    in_prefix(ranks, a) && !both_occur(t, c, a)
 }
 
 // The literal of a that occurs; if none does, the negated one.
@@ -53,9 +46,8 @@ fn lone_literal(t: &[u16], c: Counts, a: usize) -> u16
 }
 
 // The literal that becomes true: the opposite of the one that occurs, for a universal.
-pub fn pure_literal(t: &[u16], c: Counts, ranks: &[u16], a: usize) -> u16
+pub fn pure_literal(t: &[u16], c: Counts, ranks: &Ranks, a: usize) -> u16
     requires held { Held t.now c }
-    requires ranks_len { length ranks.now ≡ 1024 }
     ensures { (φ : Formula) → Holds φ t.now c → well_formed φ ≡ true → ranks.now ≡ ranks_of φ.prefix → rules.pure_permitted φ a ≡ true → result ≡ pure_true φ a }
 {
     if Counts::VARIABLES < a {

@@ -11,11 +11,7 @@ pub fn unit_permitted(t: &[u16], c: Counts, a: usize) -> bool
     requires { Held t.now c }
     ensures { (φ : Formula) → Holds φ t.now c → result ≡ unit_permitted φ a }
 {
-    if c.clauses <= a {
-        return false;
-    }
-    let clause = clause_at(t, c, a);
-    clause.len() == 1
+    a < c.clauses && clause_at(t, c, a).len() == 1
 }
 
 // Literal k of clause a; 0 where there is none.
@@ -26,11 +22,7 @@ pub fn literal_at(t: &[u16], c: Counts, a: usize, k: usize) -> u16
     if c.clauses <= a {
         return 0;
     }
-    let clause = clause_at(t, c, a);
-    if clause.len() <= k {
-        return 0;
-    }
-    clause[k]
+    clause_at(t, c, a).get(k).copied().unwrap_or(0)
 }
 
 // The one literal of clause a, where the step is permitted.

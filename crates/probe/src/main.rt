@@ -4,24 +4,23 @@
 
 mod calls;
 mod inputs;
-mod numbers;
 mod operations;
 mod results;
 
+use calls::serve_call;
+use inputs::Stop;
 use std::io;
 
-// A proved loop has to end, and nothing says that the input does. So the loop counts its turns down, from a number that no run
-// uses up.
+// A proved loop has to end, and nothing says that the input does. So the loop counts its turns, up to a number that no run reaches.
 fn main(rt: HostRuntime) -> io::Result<()> {
     let mut input = rt.reader();
     let mut first = [0u16; 12000];
     let mut second = [0u16; 12000];
     let mut bytes = [0u8; 70000];
     let mut raw = [0u8; 24008];
-    let mut out = [0u8; 160000];
-    let mut turns = u64::MAX;
-    while turns > 0 {
-        if calls::serve_call(
+    let mut out = Vec::with_capacity(rt.alloc(), 160000)?;
+    for _ in 0..u64::MAX {
+        match serve_call(
             &rt,
             &mut input,
             &mut first,
@@ -29,10 +28,10 @@ fn main(rt: HostRuntime) -> io::Result<()> {
             &mut bytes,
             &mut raw,
             &mut out,
-        )? {
-            turns -= 1;
-        } else {
-            return Ok(());
+        ) {
+            Ok(()) => {}
+            Err(Stop::NoCall) => break,
+            Err(Stop::Failed(e)) => return Err(e),
         }
     }
     Ok(())

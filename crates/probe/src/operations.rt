@@ -1,84 +1,93 @@
-// The operations of the face, each with its result put together; the length of the result is given.
+// The operations of the face, each with its result put together.
+use crate::inputs::{Head, Stop};
 use crate::results::{put_front, put_part, put_rest, put_values};
-use rimhlada::Counts;
 
-pub fn read(text: &[u8], first: &mut [u16], second: &mut [u16], out: &mut [u8]) -> usize {
-    let r = rimhlada::read(text, first, second);
-    let answer = r.answer;
-    let c = r.counts;
-    let e = put_front(out, answer.number(), c, r.offset);
-    put_rest(out, e, first, second, b"")
+// The operations, by their numbers in a call.
+#[derive(Drop)]
+enum Operation {
+    Read,
+    Write,
+    Literals,
+    Step,
+    Run,
+    Replay,
+    Reason,
 }
 
-pub fn write(first: &[u16], second: &[u16], c: Counts, bytes: &mut [u8], out: &mut [u8]) -> usize {
-    let w = rimhlada::write(first, second, c, bytes);
-    let answer = w.answer;
-    let e = put_front(out, answer.number(), c, w.bytes);
-    put_rest(out, e, first, second, bytes)
-}
+impl TryFrom<u8> for Operation {
+    type Error = Stop;
 
-pub fn literals<'a>(first: &'a [u16], second: &'a [u16], c: Counts, out: &mut [u8]) -> usize {
-    let number = rimhlada::literals_number(first, second, c);
-    let part = rimhlada::literals(first, second, c);
-    let e = put_front(out, number, c, part.len());
-    put_part(out, e, first, second, part)
+    fn try_from(number: u8) -> Result<Operation, Stop> {
+        match number {
+            1 => Ok(Operation::Read),
+            2 => Ok(Operation::Write),
+            3 => Ok(Operation::Literals),
+            4 => Ok(Operation::Step),
+            5 => Ok(Operation::Run),
+            6 => Ok(Operation::Replay),
+            7 => Ok(Operation::Reason),
+            _ => Err(Stop::NoCall),
+        }
+    }
 }
 
 // No entry has more than 32 bits.
-pub fn step(first: &mut [u16], second: &mut [u16], c: Counts, entry: u64, out: &mut [u8]) -> usize {
-    if 4294967295 < entry {
-        return 0;
+fn entry_of(a: u64) -> Result<u32, Stop> {
+    match u32::try_from(a) {
+        Ok(entry) => Ok(entry),
+        Err(_) => Err(Stop::NoCall),
     }
-    let r = rimhlada::step(first, second, c, entry as u32);
-    let answer = r.answer;
-    let d = r.counts;
-    let e = put_front(out, answer.number(), d, 0);
-    put_rest(out, e, first, second, b"")
 }
 
-pub fn run(
+// The result of the call.
+pub fn answer(
+    h: Head,
     first: &mut [u16],
     second: &mut [u16],
-    c: Counts,
-    allowance: u64,
-    limit: u64,
-    log: &mut [u8],
-    out: &mut [u8],
-) -> usize {
-    let r = rimhlada::run(first, second, c, allowance as usize, limit as usize, log);
-    let answer = r.answer;
-    let d = r.counts;
-    let e = put_front(out, answer.number(), d, r.steps);
-    put_rest(out, e, first, second, log)
-}
-
-pub fn replay(
-    first: &mut [u16],
-    second: &mut [u16],
-    c: Counts,
-    log: &[u8],
-    out: &mut [u8],
-) -> usize {
-    let r = rimhlada::replay(first, second, c, log);
-    let answer = r.answer;
-    let d = r.counts;
-    let e = put_front(out, answer.number(), d, r.applied);
-    put_rest(out, e, first, second, b"")
-}
-
-pub fn reason(
-    first: &mut [u16],
-    second: &mut [u16],
-    c: Counts,
-    variable: u64,
-    allowance: u64,
-    out: &mut [u8],
-) -> usize {
-    let r = rimhlada::reason(first, second, c, variable as usize, allowance as usize);
-    let answer = r.answer;
-    let d = r.counts;
-    let e = put_front(out, answer.number(), d, rimhlada::reason_kind(answer));
-    let mut values = [0u64; 3];
-    rimhlada::reason_values(&mut values, answer);
-    put_values(out, e, first, second, &values)
+    bytes: &mut [u8],
+    out: &mut Vec<u8>,
+) -> Result<(), Stop> {
+    let c = h.counts;
+    match Operation::try_from(h.operation)? {
+        Operation::Read => {
+            let r = rimhlada::read(bytes, first, second);
+            put_front(out, r.answer.number(), r.counts, r.offset)?;
+            put_rest(out, first, second, b"")?;
+        }
+        Operation::Write => {
+            let w = rimhlada::write(first, second, c, bytes);
+            put_front(out, w.answer.number(), c, w.bytes)?;
+            put_rest(out, first, second, bytes)?;
+        }
+        Operation::Literals => {
+            let number = rimhlada::literals_number(first, second, c);
+            let part = rimhlada::literals(first, second, c);
+            put_front(out, number, c, part.len())?;
+            put_part(out, first, second, part)?;
+        }
+        Operation::Step => {
+            let r = rimhlada::step(first, second, c, entry_of(h.a)?);
+            put_front(out, r.answer.number(), r.counts, 0)?;
+            put_rest(out, first, second, b"")?;
+        }
+        Operation::Run => {
+            let r = rimhlada::run(first, second, c, h.a as usize, h.b as usize, bytes);
+            put_front(out, r.answer.number(), r.counts, r.steps)?;
+            put_rest(out, first, second, bytes)?;
+        }
+        Operation::Replay => {
+            let r = rimhlada::replay(first, second, c, bytes);
+            put_front(out, r.answer.number(), r.counts, r.applied)?;
+            put_rest(out, first, second, b"")?;
+        }
+        Operation::Reason => {
+            let r = rimhlada::reason(first, second, c, h.a as usize, h.b as usize);
+            let mut values = [0u64; 3];
+            rimhlada::reason_values(&mut values, r.answer);
+            let kind = rimhlada::reason_kind(r.answer);
+            put_front(out, r.answer.number(), r.counts, kind)?;
+            put_values(out, first, second, &values)?;
+        }
+    }
+    Ok(())
 }

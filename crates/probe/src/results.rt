@@ -1,116 +1,75 @@
-// A result, put together. Each function gives the place after what it wrote; the output has room for every result.
-ghost use Rattle.std.specs.Prelude.{◌+◌, ◌≤◌, length};
-
-use crate::numbers::put_number;
+// A result, put together: numbers as bytes, the least significant first.
 use rimhlada::Counts;
-use shows::{high, low, reach};
+use shows::reach;
+use std::alloc::AllocError;
 
-// The first n numbers of a table.
-fn put_numbers(out: &mut [u8], at: usize, t: &[u16], n: usize) -> usize
-    requires { (at ≤ length out.old) × (n ≤ length t.now) }
-    ensures { result ≤ length out.old }
-{
-    if (out.len() - at) / 2 < n {
-        return at;
-    }
-    let mut i = 0;
-    while i < n {
-        out[at + 2 * i] = low(t[i] as u64);
-        out[at + 2 * i + 1] = high(t[i]);
-        i += 1;
-    }
-    at + 2 * n
+// A length, in four bytes.
+fn put_length(out: &mut Vec<u8>, n: usize) -> Result<(), AllocError> {
+    out.extend_from_slice(&n.to_le_bytes()[..4])
 }
 
 // A table: its length, how many numbers follow, and these.
-fn put_table(out: &mut [u8], at: usize, t: &[u16]) -> usize
-    requires { at ≤ length out.old }
-    ensures { result ≤ length out.old }
-{
+fn put_table(out: &mut Vec<u8>, t: &[u16]) -> Result<(), AllocError> {
     let n = reach(t);
-    let e = put_number(out, at, t.len() as u64, 4);
-    let f = put_number(out, e, n as u64, 4);
-    put_numbers(out, f, t, n)
+    put_length(out, t.len())?;
+    put_length(out, n)?;
+    for x in &t[..n] {
+        out.extend_from_slice(&x.to_le_bytes())?;
+    }
+    Ok(())
 }
 
 // The answer, the record and n.
-pub fn put_front(out: &mut [u8], answer: u8, c: Counts, n: usize) -> usize
-    ensures { result ≤ length out.old }
-{
-    let e = put_number(out, 0, answer as u64, 1);
-    let f = put_number(out, e, c.second as u64, 1);
-    let g = put_number(out, f, c.variables as u64, 8);
-    let h = put_number(out, g, c.clauses as u64, 8);
-    let i = put_number(out, h, c.literals as u64, 8);
-    put_number(out, i, n as u64, 8)
-}
-
-fn put_all(out: &mut [u8], at: usize, bytes: &[u8]) -> usize
-    requires { at ≤ length out.old }
-    ensures { result ≤ length out.old }
-{
-    if out.len() - at < bytes.len() {
-        return at;
+pub fn put_front(out: &mut Vec<u8>, answer: u8, c: Counts, n: usize) -> Result<(), AllocError> {
+    out.extend_from_slice(&[answer, u8::from(c.second)])?;
+    for x in [c.variables, c.clauses, c.literals, n] {
+        out.extend_from_slice(&x.to_le_bytes())?;
     }
-    let mut i = 0;
-    while i < bytes.len() {
-        out[at + i] = bytes[i];
-        i += 1;
-    }
-    at + bytes.len()
+    Ok(())
 }
 
-// Bytes and their length.
-fn put_bytes(out: &mut [u8], at: usize, bytes: &[u8]) -> usize
-    requires { at ≤ length out.old }
-    ensures { result ≤ length out.old }
-{
-    let e = put_number(out, at, bytes.len() as u64, 4);
-    put_all(out, e, bytes)
+// What follows n: the two tables as left, and the bytes with their length.
+fn put_lent(
+    out: &mut Vec<u8>,
+    first: &[u16],
+    second: &[u16],
+    bytes: &[u8],
+) -> Result<(), AllocError> {
+    put_table(out, first)?;
+    put_table(out, second)?;
+    put_length(out, bytes.len())?;
+    out.extend_from_slice(bytes)
 }
 
-// What follows n: the two tables as left, and the bytes.
-fn put_lent(out: &mut [u8], at: usize, first: &[u16], second: &[u16], bytes: &[u8]) -> usize
-    requires { at ≤ length out.old }
-    ensures { result ≤ length out.old }
-{
-    let e = put_table(out, at, first);
-    let f = put_table(out, e, second);
-    put_bytes(out, f, bytes)
-}
-
-// The same, and a part.
-pub fn put_part(out: &mut [u8], at: usize, first: &[u16], second: &[u16], part: &[u16]) -> usize
-    requires { at ≤ length out.old }
-    ensures { result ≤ length out.old }
-{
-    let e = put_lent(out, at, first, second, b"");
-    put_table(out, e, part)
+// The same with no bytes, and a part.
+pub fn put_part(
+    out: &mut Vec<u8>,
+    first: &[u16],
+    second: &[u16],
+    part: &[u16],
+) -> Result<(), AllocError> {
+    put_lent(out, first, second, b"")?;
+    put_table(out, part)
 }
 
 // The same, and an empty part.
-pub fn put_rest(out: &mut [u8], at: usize, first: &[u16], second: &[u16], bytes: &[u8]) -> usize
-    requires { at ≤ length out.old }
-    ensures { result ≤ length out.old }
-{
-    let e = put_lent(out, at, first, second, bytes);
-    put_number(out, e, 0, 8)
+pub fn put_rest(
+    out: &mut Vec<u8>,
+    first: &[u16],
+    second: &[u16],
+    bytes: &[u8],
+) -> Result<(), AllocError> {
+    put_lent(out, first, second, bytes)?;
+    put_table(out, &[])
 }
 
 // The same, with three values for the bytes, eight bytes each.
 pub fn put_values(
-    out: &mut [u8],
-    at: usize,
+    out: &mut Vec<u8>,
     first: &[u16],
     second: &[u16],
     values: &[u64; 3],
-) -> usize
-    requires { at ≤ length out.old }
-    ensures { result ≤ length out.old }
-{
-    let mut bytes = [0u8; 24];
-    let e = put_number(&mut bytes, 0, values[0], 8);
-    let f = put_number(&mut bytes, e, values[1], 8);
-    put_number(&mut bytes, f, values[2], 8);
-    put_rest(out, at, first, second, &bytes)
+) -> Result<(), AllocError> {
+    let bytes = values.map(|x| x.to_le_bytes());
+    put_rest(out, first, second, bytes.as_flattened())
 }

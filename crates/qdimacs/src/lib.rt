@@ -17,6 +17,7 @@ pub enum Word {
 
 // What may come next: `p`; `cnf`; M; C; a quantifier line or the first clause; the first variable of a line (0 for `e`, 1 for
 // `a`); a further variable of a line or its `0`; a literal, or the `0` of a clause; nothing, after C clauses.
+// Kept: 0 and 1 for the quantifier are what `on_variable` of specs/Decide.antt adds to twice the variable.
 #[derive(Clone, Copy)]
 pub enum Phase {
     AtP,
@@ -32,6 +33,7 @@ pub enum Phase {
 
 // What a token does: it is a fault with this number, it leads to another phase, it tells M or C, it adds an entry to the
 // prefix, it adds a literal to the open clause, or it closes that clause.
+// Kept: a fault is a number, as document 01 and `decide` of specs/Decide.antt have it.
 #[derive(Clone, Copy)]
 pub enum Move {
     Fault(u8),

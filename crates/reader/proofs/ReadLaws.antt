@@ -1,6 +1,6 @@
 -- The answer and the two tables: refused for a length, refused at a token, or read.
 -- Assumes nothing.
-use mathlib.Core.Path.{◌≡◌, refl, sym, ◌∙◌}
+use mathlib.Core.Path.{◌≡◌, refl, sym, ap, ◌∙◌}
 use mathlib.Core.Bool.{true, false}
 use mathlib.Core.List.{List}
 use Prim.Native.Nat.{ℕ, ◌≤◌, ◌<◌}
@@ -14,14 +14,13 @@ use Rattle.meaning.specs.WellFormed.{max_text}
 use Rattle.qdimacs.specs.Read.{start, fault, good, read}
 use Rattle.table.specs.Table.{empty_formula, table_of, counts_of}
 use Rattle.table.specs.Lent.{right_lengths}
-use Rattle.table.specs.Pending.{empty_pending}
+use Rattle.std.specs.Prelude.{Result, Ok, Err}
 use Rattle.table.specs.declared.Counts.{Counts}
 use Rattle.tracks.specs.Tracks.{so_far, fresh, Tracks}
 use Rattle.reader.specs.Reading.{refusal, reading_for, lengths_right, reading_of, table_for, first_after, second_after, Reads, outcome_of, Left, Filled}
 use Rattle.reader.specs.declared.ReadAnswer.TheVariants.{Read}
 use Rattle.reader.specs.declared.Reading.{Reading}
-use Rattle.reader.specs.declared.turns.Outcome.{Outcome}
-use Rattle.reader.specs.declared.turns.Outcome.TheVariants.{Taken, Refused}
+use Rattle.reader.specs.declared.turns.Fault.{Fault}
 use Rattle.meaning.proofs.Basics.{false_of, and_l, and_r, and_i, eqb-true, eqb-eq}
 use Rattle.table.proofs.HoldLaws.{empty_holds}
 use Rattle.table.proofs.TableLaws.{table_empty}
@@ -35,7 +34,7 @@ unfolding start so_far tidied build build_on empty_formula
 starts t m e z =
     record {
       stores = record { phase = refl; m = refl; c = refl; closed = refl; table = empty_holds t _ false e refl; first = unfold counts_of in refl; ranks = ranks-none };
-      pending = pends-empty (replicate 1023 0) empty_pending refl (length-replicate {A = ℕ} 1023 0);
+      pending = pends-empty (replicate 1023 0) (length-replicate {A = ℕ} 1023 0);
       marked = rw (z, ← table_empty) marks-none;
     }
 
@@ -61,21 +60,21 @@ module _ (text a b : List ℕ) where
   unfolding reading_of first_after second_after
   reads_nothing e r q = record { answer = rw e q; first = rw e; second = rw e }
 
-  module _ (e : lengths_right text a b ≡ true) (o : Outcome) (t : List ℕ) (h : Filled text o t) (b' : List ℕ) (z : b' ≡ table_of empty_formula) where
+  module _ (e : lengths_right text a b ≡ true) (o : Result Counts Fault) (t : List ℕ) (h : Filled text o t) (b' : List ℕ) (z : b' ≡ table_of empty_formula) where
     -- a refusal: both tables are zero
-    pub reads-fault : (k at : ℕ) → o ≡ Refused k at → (a' : List ℕ) → a' ≡ table_of empty_formula → (r : Reading) → r ≡ refusal k at → Reads text a b r a' b'
+    pub reads-fault : (f : Fault) → o ≡ Err f → (a' : List ℕ) → a' ≡ table_of empty_formula → (r : Reading) → r ≡ refusal f.number f.offset → Reads text a b r a' b'
     unfolding reading_of first_after second_after
-    reads-fault k at q a' y r w = record { answer = rw e (w ∙ (go (read text) (sym q ∙ h.outcome)).0); first = rw e (y ∙ (go (read text) (sym q ∙ h.outcome)).1); second = rw e z }
+    reads-fault f q a' y r w = record { answer = rw e (w ∙ (go (read text) (sym q ∙ h.outcome)).0); first = rw e (y ∙ (go (read text) (sym q ∙ h.outcome)).1); second = rw e z }
       where
-        go : (x : qdimacs.Answer) → Refused k at ≡ outcome_of x → (refusal k at ≡ reading_for x) × (table_of empty_formula ≡ table_for x)
-        go (fault l p) u = unfold outcome_of reading_for table_for in (cc, refl)
+        go : (x : qdimacs.Answer) → Err f ≡ outcome_of x → (refusal f.number f.offset ≡ reading_for x) × (table_of empty_formula ≡ table_for x)
+        go (fault l p) u = unfold outcome_of reading_for table_for in let z : f ≡ record { number = l; offset = p } = cc in (ap (λ (g : Fault). refusal g.number g.offset) z, refl)
         go (good φ) u = unfold outcome_of in (let z : ◌≡◌ {A = ℕ} 0 1 = cc in absurd (omega arith), let z : ◌≡◌ {A = ℕ} 0 1 = cc in absurd (omega arith))
 
     -- a formula is read
-    pub reads-formula : (d : Counts) → o ≡ Taken d → (r : Reading) → r ≡ record { answer = Read; offset = 0; counts = d } → Reads text a b r t b'
+    pub reads-formula : (d : Counts) → o ≡ Ok d → (r : Reading) → r ≡ record { answer = Read; offset = 0; counts = d } → Reads text a b r t b'
     unfolding reading_of first_after second_after
     reads-formula d q r w = record { answer = rw e (w ∙ (go (read text) (sym q ∙ h.outcome) h.left).0); first = rw e (go (read text) (sym q ∙ h.outcome) h.left).1; second = rw e z }
       where
-        go : (x : qdimacs.Answer) → Taken d ≡ outcome_of x → Left x t → (◌≡◌ {A = Reading} (record { answer = Read; offset = 0; counts = d }) (reading_for x)) × (t ≡ table_for x)
+        go : (x : qdimacs.Answer) → Ok d ≡ outcome_of x → Left x t → (◌≡◌ {A = Reading} (record { answer = Read; offset = 0; counts = d }) (reading_for x)) × (t ≡ table_for x)
         go (fault l p) u k = unfold outcome_of in (let z : ◌≡◌ {A = ℕ} 0 1 = cc in absurd (omega arith), let z : ◌≡◌ {A = ℕ} 0 1 = cc in absurd (omega arith))
         go (good φ) u k = unfold outcome_of reading_for table_for in (cc, k)

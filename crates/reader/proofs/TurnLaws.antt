@@ -23,22 +23,19 @@ use Rattle.qdimacs.specs.declared.Move.TheVariants.{Fault, Go, SetM, SetC, Entry
 use Rattle.scan.specs.Scan.{next_in}
 use Rattle.scan.specs.Cut.{sat_word}
 use Rattle.scan.specs.Phases.{right_phase}
-use Rattle.scan.specs.declared.bytes.Next.TheVariants.{Run, End}
+use Rattle.std.specs.Prelude.{Result, Some, None, Ok, Err}
+use Rattle.table.specs.declared.Counts.{Counts}
 use Rattle.table.specs.Table.{table_of, counts_of}
 use Rattle.table.specs.Ranks.{ranks_of}
 use Rattle.tracks.specs.Tracks.{so_far, fresh, Tracks, Allowed, Ready, entered, Steps}
 use Rattle.reader.specs.Reading.{outcome_of, concluded, Filled}
 use Rattle.tracks.specs.declared.Reader.{Reader}
-use Rattle.tracks.specs.declared.Stepped.{Stepped}
-use Rattle.tracks.specs.declared.Stepped.TheVariants.{Stop, On}
-use Rattle.reader.specs.declared.turns.Outcome.{Outcome}
-use Rattle.reader.specs.declared.turns.Outcome.TheVariants.{Taken, Refused}
+use Rattle.reader.specs.declared.turns.Fault as turns
 use Rattle.qdimacs.proofs.Right.{Right, Where}
 use Rattle.scan.proofs.Reached.{Reached, reached-start, reached-right, reached-phase, reached-end, reached-next, reached-fault}
 use Rattle.meaning.proofs.Basics.{by_cases, and_l, and_r}
 use Rattle.meaning.proofs.Lists.{all_append, all-le}
 use Rattle.meaning.proofs.Prefix.{mentioned-all, mentioned-some}
-use Rattle.table.proofs.RankLaws.{length-ranks}
 use Rattle.tracks.proofs.TrackLaws.{closing}
 
 -- the answer, from how the fold over the tokens ends
@@ -46,11 +43,11 @@ read_is : (s : List ℕ) → length s ≤ max_text → read s ≡ tidied_answer 
 unfolding read as_written
 read_is s h = rw (le-ltb max_text (length s) h)
 
-filled-good : (s : List ℕ) (φ : Formula) → read s ≡ good φ → (o : Outcome) → o ≡ Taken (counts_of φ false) → (t : List ℕ) → t ≡ table_of φ → Filled s o t
+filled-good : (s : List ℕ) (φ : Formula) → read s ≡ good φ → (o : Result Counts turns.Fault) → o ≡ Ok (counts_of φ false) → (t : List ℕ) → t ≡ table_of φ → Filled s o t
 unfolding outcome_of
 filled-good s φ e o q t k = record { outcome = rw e q; left = rw e k }
 
-filled-fault : (s : List ℕ) (k a : ℕ) → read s ≡ fault k a → (o : Outcome) → o ≡ Refused k a → (t : List ℕ) → Filled s o t
+filled-fault : (s : List ℕ) (k a : ℕ) → read s ≡ fault k a → (o : Result Counts turns.Fault) → o ≡ Err (record { number = k; offset = a }) → (t : List ℕ) → Filled s o t
 unfolding outcome_of
 filled-fault s k a e o q t = record { outcome = rw e q; left = rw e tt }
 
@@ -85,13 +82,13 @@ module _ (s : List ℕ) (at : ℕ) (r : Reader) (t w k m : List ℕ) (f : Fillin
   right = reached-right s at st f.reached
 
   -- what judging a word asks for
-  pub filling-judge : right_phase r.phase × (r.m ≤ max_variables) × (length k ≡ 1024)
+  pub filling-judge : right_phase r.phase × (r.m ≤ max_variables)
   filling-judge =
       let h = f.tracks.stores in
-      (subst right_phase (sym h.phase) (reached-phase s at st f.reached), omega (arith, h.m, right.small), rw h.ranks (length-ranks st.prefix))
+      (subst right_phase (sym h.phase) (reached-phase s at st f.reached), omega (arith, h.m, right.small))
 
   -- no token is left
-  pub filling-end : length s ≤ max_text → next_in s at ≡ End → (o : Outcome) → o ≡ concluded r (length s) → Filled s o t
+  pub filling-end : length s ≤ max_text → next_in s at ≡ None → (o : Result Counts turns.Fault) → o ≡ concluded r (length s) → Filled s o t
   unfolding finish tidied_answer concluded so_far
   filling-end short none o q =
       let h = f.tracks.stores in
@@ -99,11 +96,11 @@ module _ (s : List ℕ) (at : ℕ) (r : Reader) (t w k m : List ℕ) (f : Fillin
       read_is s short ∙ rw (reached-end s at st f.reached none) in
       let same : complete r.phase r.c ≡ complete st.phase st.c = cc in
       by_cases (complete st.phase st.c)
-      (λ b. filled-good s (so_far st) (done ∙ rw b) o (q ∙ rw (same ∙ b) (ap Taken (h.table.counts ∙ ap (counts_of (so_far st)) h.first))) t h.table.table)
+      (λ b. filled-good s (so_far st) (done ∙ rw b) o (q ∙ rw (same ∙ b) (ap {B = Result Counts turns.Fault} Ok (h.table.counts ∙ ap (counts_of (so_far st)) h.first))) t h.table.table)
       (λ b. filled-fault s SHORT (length s) (done ∙ rw b) o (q ∙ rw (same ∙ b)) t)
 
   -- a token from a to e: its word and its move
-  module _ (a e : ℕ) (next : next_in s at ≡ Run a e) (word : Word) (mv : Move)
+  module _ (a e : ℕ) (next : next_in s at ≡ Some (a, e)) (word : Word) (mv : Move)
       (spelt : word ≡ sat_word (word_of (take (e - a) (drop a s))))
       (judged : (p : List ℕ) → all_of (λ q. leb (var q) max_variables) p ≡ true → k ≡ ranks_of p → mv ≡ decide r.phase r.m r.c (mentions p (variable_of word)) word) where
     moved : mv ≡ decide st.phase st.m st.c (mentions st.prefix (variable_of word)) word
@@ -134,19 +131,19 @@ module _ (s : List ℕ) (at : ℕ) (r : Reader) (t w k m : List ℕ) (f : Fillin
     pub turn-ready : Ready r mv t w k m
     turn-ready = record { state = st; tracks = f.tracks; allowed = allowed mv refl }
 
-    module _ (t' w' k' m' : List ℕ) (o : Stepped)
+    module _ (t' w' k' m' : List ℕ) (o : Result Reader ℕ)
         (went : (st : State) (at : ℕ) → Tracks st r t w k m → Allowed st mv → Steps st at mv o t' w' k' m') where
-      steps : (x : Stepped) → o ≡ x → Steps st a mv x t' w' k' m'
-      steps x q = subst (λ (o : Stepped). Steps st a mv o t' w' k' m') q (went st a f.tracks (allowed mv refl))
+      steps : (x : Result Reader ℕ) → o ≡ x → Steps st a mv x t' w' k' m'
+      steps x q = subst (λ (o : Result Reader ℕ). Steps st a mv o t' w' k' m') q (went st a f.tracks (allowed mv refl))
 
       -- the move is a fault
-      pub turn-stop : length s ≤ max_text → (x : ℕ) → o ≡ Stop x → Filled s (Refused x a) t'
+      pub turn-stop : length s ≤ max_text → (x : ℕ) → o ≡ Err x → Filled s (Err (record { number = x; offset = a })) t'
       unfolding finish tidied_answer
       turn-stop short x q =
-          filled-fault s x a (read_is s short ∙ rw (reached-fault s at st f.reached a e next word mv spelt moved x a (steps (Stop x) q))) (Refused x a) refl t'
+          filled-fault s x a (read_is s short ∙ rw (reached-fault s at st f.reached a e next word mv spelt moved x a (steps (Err x) q))) (Err (record { number = x; offset = a })) refl t'
 
       -- the reader goes on
-      pub turn_on : (n : Reader) → o ≡ On n → Filling s e n t' w' k' m'
+      pub turn_on : (n : Reader) → o ≡ Ok n → Filling s e n t' w' k' m'
       turn_on n q =
-          let h = steps (On n) q in
+          let h = steps (Ok n) q in
           record { state = h.0; reached = reached-next s at st f.reached a e next word mv spelt moved h.0 h.1; tracks = h.2 }

@@ -1,19 +1,19 @@
 -- What reading gives and leaves (document 01, "Reading and writing", "Numbers given back"), as a function of the text and the
 -- two tables that are lent. What the tables hold makes no difference.
 -- Assumes nothing.
-use Rattle.std.specs.Prelude.{◌≡◌, Bool, false, cond, ◌&&◌, List, ℕ, leb, eqb, length}
+use Rattle.std.specs.Prelude.{◌≡◌, Bool, false, cond, ◌&&◌, List, ℕ, leb, eqb, length, Result, Ok, Err}
 use Rattle.qdimacs.specs.Read as qdimacs
 use Rattle.meaning.specs.WellFormed.{max_text}
 use Rattle.qdimacs.specs.Faults.{LENGTH, SYNTAX, SHORT, RANGE, TWICE, UNBOUND, COUNT, TOO-BIG}
 use Rattle.qdimacs.specs.Read.{complete, fault, good, read}
 use Rattle.table.specs.Table.{empty_formula, table_of, counts_of}
 use Rattle.table.specs.Lent.{right_lengths}
+use Rattle.table.specs.declared.Counts.{Counts}
 use Rattle.reader.specs.declared.ReadAnswer.{ReadAnswer}
 use Rattle.reader.specs.declared.ReadAnswer.TheVariants.{Read, Length, Syntax, Short, Range, Twice, Unbound, Count, TooBig}
 use Rattle.reader.specs.declared.Reading.{Reading}
 use Rattle.tracks.specs.declared.Reader.{Reader}
-use Rattle.reader.specs.declared.turns.Outcome.{Outcome}
-use Rattle.reader.specs.declared.turns.Outcome.TheVariants.{Taken, Refused}
+use Rattle.reader.specs.declared.turns.Fault.{Fault}
 
 -- the numbers of the answers
 unfoldable pub read_number : ReadAnswer → ℕ
@@ -73,17 +73,17 @@ pub record Reads (text a b : List ℕ) (r : Reading) (a' b' : List ℕ) : Type 0
   pub second : b' ≡ second_after text a b
 
 -- Without the lengths, before the first table is zeroed again -------------------------------------------------
-unfoldable pub outcome_of : qdimacs.Answer → Outcome
-outcome_of (fault k at) = Refused k at
-outcome_of (good φ) = Taken (counts_of φ false)
+unfoldable pub outcome_of : qdimacs.Answer → Result Counts Fault
+outcome_of (fault k at) = Err (record { number = k; offset = at })
+outcome_of (good φ) = Ok (counts_of φ false)
 
-unfoldable pub concluded : Reader → ℕ → Outcome
-concluded r n = cond (complete r.phase r.c) (Taken r.counts) (Refused SHORT n)
+unfoldable pub concluded : Reader → ℕ → Result Counts Fault
+concluded r n = cond (complete r.phase r.c) (Ok r.counts) (Err (record { number = SHORT; offset = n }))
 
 abbrev pub Left : qdimacs.Answer → List ℕ → Type 0
 Left (fault k at) t = Unit {0}
 Left (good φ) t = t ≡ table_of φ
 
-pub record Filled (text : List ℕ) (o : Outcome) (t : List ℕ) : Type 0 where
+pub record Filled (text : List ℕ) (o : Result Counts Fault) (t : List ℕ) : Type 0 where
   pub outcome : o ≡ outcome_of (read text)
   pub left : Left (read text) t

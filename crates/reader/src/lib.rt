@@ -4,12 +4,13 @@
 ghost use Rattle.reader.specs.Reading.{read_number, answer_for, refusal, Reads};
 ghost use Rattle.std.specs.Prelude.{◌≡◌};
 
-use crate::turns::{Outcome, fill};
+use crate::turns::fill;
 use table::{Counts, zero};
 
 mod turns;
 
 // What is said of a text: it was read, or why not.
+// Kept: no Result, since an offset and a record come back with every answer, and the definition Reads speaks of all three.
 #[derive(Clone, Copy)]
 pub enum ReadAnswer {
     Read,
@@ -54,40 +55,26 @@ pub struct Reading {
 fn answer_for(k: u8) -> ReadAnswer
     ensures { result ≡ answer_for k }
 {
-    if k == 1 {
-        return ReadAnswer::Length;
+    match k {
+        1 => ReadAnswer::Length,
+        3 => ReadAnswer::Syntax,
+        4 => ReadAnswer::Short,
+        5 => ReadAnswer::Range,
+        6 => ReadAnswer::Twice,
+        7 => ReadAnswer::Unbound,
+        8 => ReadAnswer::Count,
+        _ => ReadAnswer::TooBig,
     }
-    if k == 3 {
-        return ReadAnswer::Syntax;
-    }
-    if k == 4 {
-        return ReadAnswer::Short;
-    }
-    if k == 5 {
-        return ReadAnswer::Range;
-    }
-    if k == 6 {
-        return ReadAnswer::Twice;
-    }
-    if k == 7 {
-        return ReadAnswer::Unbound;
-    }
-    if k == 8 {
-        return ReadAnswer::Count;
-    }
-    ReadAnswer::TooBig
 }
 
 // A refusal with this number, at this offset.
 fn refuse(k: u8, offset: usize) -> Reading
     ensures { result ≡ refusal k offset }
 {
-    let answer = answer_for(k);
-    let counts = Counts::empty();
     Reading {
-        answer: answer,
-        offset: offset,
-        counts: counts,
+        answer: answer_for(k),
+        offset,
+        counts: Counts::empty(),
     }
 }
 
@@ -95,13 +82,7 @@ fn refuse(k: u8, offset: usize) -> Reading
 pub fn read(text: &[u8], first: &mut [u16], second: &mut [u16]) -> Reading
     ensures { Reads text.now first.old second.old result first.new second.new }
 {
-    if first.len() != Counts::TABLE {
-        return refuse(1, 0);
-    }
-    if second.len() != Counts::TABLE {
-        return refuse(1, 0);
-    }
-    if 65536 < text.len() {
+    if first.len() != Counts::TABLE || second.len() != Counts::TABLE || 65536 < text.len() {
         return refuse(1, 0);
     }
     zero(first);
@@ -111,14 +92,14 @@ pub fn read(text: &[u8], first: &mut [u16], second: &mut [u16]) -> Reading
     let outcome = fill(text, first, &mut scratch, &mut ranks, second);
     zero(second);
     match outcome {
-        Outcome::Taken(counts) => Reading {
+        Ok(counts) => Reading {
             answer: ReadAnswer::Read,
             offset: 0,
-            counts: counts,
+            counts,
         },
-        Outcome::Refused(k, offset) => {
+        Err(fault) => {
             zero(first);
-            refuse(k, offset)
+            refuse(fault.number, fault.offset)
         }
     }
 }

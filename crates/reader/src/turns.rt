@@ -12,89 +12,78 @@ ghost use Rattle.tracks.specs.Tracks.{fresh, Tracks};
 ghost use Rattle.reader.specs.Reading.{concluded, Filled};
 
 use qdimacs::{Move, Word};
-use scan::bytes::{Next, next_token, skip_preamble};
+use scan::bytes::{next_token, skip_preamble};
 use scan::moves::{decide_move, variable};
 use scan::words::read_word;
-use table::Counts;
-use tracks::{Reader, Stepped, apply, is_complete};
+use table::{Counts, Ranks, Scratch};
+use tracks::{Reader, apply, is_complete};
 
-// A text was read, and its formula has these counts; or it was refused with this number, at this offset.
+// Why a text is refused: document 01's number, and the offset.
+// Kept: the number and no enum of faults, since `Move::Fault` of qdimacs has it, as `fault` of its specs.
 #[derive(Clone, Copy)]
-pub enum Outcome {
-    Taken(Counts),
-    Refused(u8, usize),
+pub struct Fault {
+    pub number: u8,
+    pub offset: usize,
 }
 
 // Whether a variable is in the prefix that has these ranks.
-pub fn seen(ranks: &[u16], v: u16) -> bool
-    requires { length ranks.now ≡ 1024 }
+pub fn seen(ranks: &Ranks, v: u16) -> bool
     ensures { (p : List ℕ) → all_of (λ q. leb (var q) max_variables) p ≡ true → ranks.now ≡ ranks_of p → result ≡ mentions p v }
 {
     if 1023 < v {
         return false;
     }
-    let i = v as usize;
-    ranks[i] != 0
+    ranks[v as usize] != 0
 }
 
 // What a word does.
-pub fn judge(r: Reader, ranks: &[u16], w: Word) -> Move
-    requires { right_phase r.phase × (r.m ≤ max_variables) × (length ranks.now ≡ 1024) }
+pub fn judge(r: Reader, ranks: &Ranks, w: Word) -> Move
+    requires { right_phase r.phase × (r.m ≤ max_variables) }
     ensures { (p : List ℕ) → all_of (λ q. leb (var q) max_variables) p ≡ true → ranks.now ≡ ranks_of p → result ≡ decide r.phase r.m r.c (mentions p (variable_of w)) w }
 {
-    let v = variable(w);
-    let b = seen(ranks, v);
-    let phase = r.phase;
-    let m = r.m;
-    let c = r.c;
-    decide_move(phase, m, c, b, w)
+    let known = seen(ranks, variable(w));
+    decide_move(r.phase, r.m, r.c, known, w)
 }
 
-// At the end of a text of n bytes.
-pub fn conclude(r: Reader, n: usize) -> Outcome
+// At the end of a text of n bytes: the counts of the formula that was read.
+pub fn conclude(r: Reader, n: usize) -> Result<Counts, Fault>
     ensures { result ≡ concluded r n }
 {
-    let phase = r.phase;
-    let c = r.c;
-    if is_complete(phase, c) {
-        let counts = r.counts;
-        return Outcome::Taken(counts);
+    if is_complete(r.phase, r.c) {
+        return Ok(r.counts);
     }
-    Outcome::Refused(4, n)
+    Err(Fault {
+        number: 4,
+        offset: n,
+    })
 }
 
 // Reads a text into a table that is all zero, with a scratch, the ranks of no prefix and the marks of no clause.
 pub fn fill(
     text: &[u8],
     table: &mut [u16],
-    scratch: &mut [u16],
-    ranks: &mut [u16],
+    scratch: &mut Scratch,
+    ranks: &mut Ranks,
     marks: &mut [u16],
-) -> Outcome
+) -> Result<Counts, Fault>
     requires text_len_bound { length text.now ≤ max_text }
     requires tracks { Tracks start fresh table.old scratch.old ranks.old marks.old }
     ensures { Filled text.now result table.new }
 {
     let mut at = skip_preamble(text);
     let mut r = Reader::new();
-    loop {
-        match next_token(text, at) {
-            Next::End => {
-                return conclude(r, text.len());
+    while let Some((a, e)) = next_token(text, at) {
+        let w = read_word(&text[a..e]);
+        let mv = judge(r, ranks, w);
+        match apply(r, mv, table, scratch, ranks, marks) {
+            Ok(next) => {
+                r = next;
+                at = e;
             }
-            Next::Run(a, e) => {
-                let w = read_word(&text[a..e]);
-                let mv = judge(r, ranks, w);
-                match apply(r, mv, table, scratch, ranks, marks) {
-                    Stepped::Stop(k) => {
-                        return Outcome::Refused(k, a);
-                    }
-                    Stepped::On(next) => {
-                        r = next;
-                        at = e;
-                    }
-                }
+            Err(number) => {
+                return Err(Fault { number, offset: a });
             }
         }
     }
+    conclude(r, text.len())
 }

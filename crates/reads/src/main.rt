@@ -3,64 +3,71 @@
 #![tactic(auto)]
 
 use rimhlada::Reading;
-use shows::{say, used, word};
-use std::io;
+use shows::used;
+use std::{fmt, io};
 
 mod cases;
 mod texts;
 
-fn small(rt: &impl Print, n: u16) -> io::Result<()> {
-    word(rt, n as u64)
+// The two tables that each reading is lent.
+#[derive(Drop)]
+pub struct Tables {
+    pub first: [u16; 11261],
+    pub second: [u16; 11261],
 }
 
-fn show_reading(rt: &impl Print, r: Reading) -> io::Result<()> {
-    let a = r.answer;
-    let c = r.counts;
-    word(rt, a.number() as u64)?;
-    word(rt, r.offset as u64)?;
-    say(rt, b"| ")?;
-    word(rt, c.variables as u64)?;
-    word(rt, c.clauses as u64)?;
-    word(rt, c.literals as u64)?;
-    if c.second {
-        say(rt, b"second ")?;
+// What a reading gives.
+#[derive(Drop)]
+pub struct Shown(pub Reading);
+
+impl fmt::Display for Shown {
+    fn fmt<W: fmt::Write>(&self, f: &mut fmt::Formatter<W>) -> fmt::Result {
+        let number = self.0.answer.number();
+        let offset = self.0.offset;
+        let c = self.0.counts;
+        let m = c.variables;
+        let n = c.clauses;
+        let k = c.literals;
+        let second = if c.second { "second " } else { "" };
+        write!(f, "{number} {offset} | {m} {n} {k} {second}")
+    }
+}
+
+// One text.
+pub fn show(rt: &impl Print, text: &str, tables: &mut Tables) -> io::Result<()> {
+    let first = &mut tables.first;
+    let second = &mut tables.second;
+    first[11260] = 1;
+    second[0] = 1;
+    let shown = Shown(rimhlada::read(text.as_bytes(), first, second));
+    print!(rt; "{shown}| ")?;
+    for at in [0, 1, 1023, 1024, 3070, 3071, 3072] {
+        let x = first[at];
+        print!(rt; "{x} ")?;
+    }
+    let m = used(first);
+    let n = used(second);
+    println!(rt; "| {m} {n} ")
+}
+
+fn show_all(rt: &impl Print, title: &str, texts: &[&str], tables: &mut Tables) -> io::Result<()> {
+    println!(rt; "{title}")?;
+    for text in texts {
+        show(rt, text, tables)?;
     }
     Ok(())
 }
 
-// One text.
-pub fn show(
-    rt: &impl Print,
-    text: &[u8],
-    first: &mut [u16; 11261],
-    second: &mut [u16; 11261],
-) -> io::Result<()> {
-    first[11260] = 1;
-    second[0] = 1;
-    let r = rimhlada::read(text, first, second);
-    show_reading(rt, r)?;
-    say(rt, b"| ")?;
-    small(rt, first[0])?;
-    small(rt, first[1])?;
-    small(rt, first[1023])?;
-    small(rt, first[1024])?;
-    small(rt, first[3070])?;
-    small(rt, first[3071])?;
-    small(rt, first[3072])?;
-    say(rt, b"| ")?;
-    word(rt, used(first) as u64)?;
-    word(rt, used(second) as u64)?;
-    say(rt, b"\n")
-}
-
 fn main(rt: HostRuntime) -> io::Result<()> {
-    let mut first = [0u16; 11261];
-    let mut second = [0u16; 11261];
-    cases::headers(&rt, &mut first, &mut second)?;
-    cases::lines(&rt, &mut first, &mut second)?;
-    cases::clauses(&rt, &mut first, &mut second)?;
-    cases::layouts(&rt, &mut first, &mut second)?;
-    cases::limits(&rt, &mut first, &mut second)?;
-    texts::built(&rt, &mut first, &mut second)?;
-    cases::lengths(&rt, &mut first, &mut second)
+    let mut tables = Tables {
+        first: [0; 11261],
+        second: [0; 11261],
+    };
+    show_all(&rt, "headers", &cases::HEADERS, &mut tables)?;
+    show_all(&rt, "lines", &cases::LINES, &mut tables)?;
+    show_all(&rt, "clauses", &cases::CLAUSES, &mut tables)?;
+    show_all(&rt, "layouts", &cases::LAYOUTS, &mut tables)?;
+    show_all(&rt, "limits", &cases::LIMITS, &mut tables)?;
+    texts::built(&rt, &mut tables)?;
+    cases::lengths(&rt, &mut tables)
 }

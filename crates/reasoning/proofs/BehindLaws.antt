@@ -1,12 +1,13 @@
 -- The first entry behind some entries of a prefix that passes a test; and what stands right of a variable, by its place.
 -- Assumes nothing.
-use Prim.Native.Nat.{ℕ, ◌+◌, ◌/◌, ◌≤◌, ◌<◌}
-use mathlib.Core.Path.{◌≡◌, sym, ap, ◌∙◌}
-use mathlib.Core.Bool.{Bool, true, false, not}
-use mathlib.Core.List.{List}
-use lib.ListN.{length, get_or, take, drop, drop_of_length-le}
-use lib.Seq.{drop-cons}
-use native.Mathlib.Numerals.{add-one}
+use Prim.Native.Nat.{ℕ}
+use mathlib.Core.Path.{◌≡◌, refl, ap, ◌∙◌}
+use mathlib.Core.Bool.{Bool, true, false, not, cond}
+use mathlib.Core.List.{List, [], ◌∷◌}
+use lib.ListN.{take, drop}
+use Rattle.std.specs.Prelude.{Some, unwrap_or}
+use Rattle.std.proofs.Common.{◌%◌, eqb, tests, arith}
+use Rattle.std.specs.List.{find}
 use Rattle.meaning.specs.Lists.{first_passing}
 use Rattle.meaning.specs.Formula.{Formula, var, odd, mentions, right_of}
 use Rattle.table.specs.Table.{Holds}
@@ -16,19 +17,23 @@ use Rattle.reasons.specs.Reason.{universal_after, existential_after}
 use Rattle.table.proofs.HoldLaws.{prefix-is}
 use Rattle.permits.proofs.PlaceLaws.{place-right}
 
--- At index i of p: w is the first of what is left --------------------------------------------------------------
-module _ (f : ℕ → Bool) (p : List ℕ) (i : ℕ) {w : ℕ} (inv : w ≡ first_passing f (drop i p)) where
-  pub first_found : i < length p → f (get_or p i 0) ≡ true → get_or p i 0 / 2 ≡ var w
-  unfolding first_passing var
-  first_found h e = sym (ap var (inv ∙ rw (drop-cons p i 0, e)))
+-- What the library finds, where g is the test f --------------------------------------------------------------------
+pub first-is : (f g : ℕ → Bool) → ((q : ℕ) → g q ≡ f q) → (p : List ℕ) → unwrap_or (find g p) 0 ≡ first_passing f p
+unfolding first_passing
+first-is f g same [] = refl
+first-is f g same (q ∷ p) = rw (same q) (go (f q) (first-is f g same p))
+  where
+    go : (b : Bool) → unwrap_or (find g p) 0 ≡ first_passing f p → unwrap_or (cond b (Some q) (find g p)) 0 ≡ cond b q (first_passing f p)
+    go true ih = refl
+    go false ih = ih
 
-  pub first-turn : i < length p → f (get_or p i 0) ≡ false → w ≡ first_passing f (drop (i + 1) p)
-  unfolding first_passing
-  first-turn h e = inv ∙ rw (add-one, drop-cons p i 0, e)
+pub even-is : (q : ℕ) → eqb (q % 2) 0 ≡ not (odd q)
+unfolding odd
+even-is q = grind (arith, tests)
 
-  pub first-none : length p ≤ i → 0 ≡ var w
-  unfolding first_passing var
-  first-none h = let z : w ≡ 0 = inv ∙ rw (drop_of_length-le p {i = i} h) in rw z
+pub odd-is : (q : ℕ) → eqb (q % 2) 1 ≡ odd q
+unfolding odd
+odd-is q = refl
 
 -- Right of a variable: m is its place -----------------------------------------------------------------------------
 module _ {φ : Formula} {t : List ℕ} {c : Counts} (h : Holds φ t c) (x m : ℕ) (at : m ≡ place_of φ.prefix x) (there : mentions φ.prefix x ≡ true) where

@@ -24,10 +24,12 @@ fn explain_with(t: &[u16], c: Counts, spare: &mut [u16], v: usize, allowance: us
         Next::Over(end) => match end {
             End::True => Why::True,
             End::False => Why::False,
+            // Kept: two arms with one body; of arms written as one the proof learns nothing of the value that was matched.
             End::Finished => why_left(t, c, spare, v, allowance),
             End::OutOfRoom => why_left(t, c, spare, v, allowance),
         },
         Next::Step(entry) => {
+            // Kept: the kind by the entry's three top bits, as the definition of an entry has it; reading the whole entry is no plainer.
             if entry / 536870912 <= 5 {
                 return Why::NextEntry(entry);
             }

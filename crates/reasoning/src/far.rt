@@ -1,5 +1,5 @@
 // What is too far right for an existential to be resolved: the lowest clause with it that has such a variable, and the leftmost of those.
-ghost use Rattle.std.specs.Prelude.{◌≡◌, ℕ, true, List, length, drop};
+ghost use Rattle.std.specs.Prelude.{◌≡◌, ℕ, true, List, drop};
 ghost use Rattle.meaning.specs.Formula.{Formula, mentions};
 ghost use Rattle.meaning.specs.WellFormed.{bound, well_formed};
 ghost use Rattle.rules.specs.Eliminate.{from_universal};
@@ -12,50 +12,38 @@ ghost use Rattle.reasoning.specs.declared.Why.TheVariants as why;
 
 use crate::Why;
 use crate::behind::universal_after;
-use crate::variables::has_variable;
-use permits::{first_universal, is_within, place_of};
-use table::{Counts, clause_at};
+use permits::{first_universal, has_variable, is_within, place_of};
+use table::{Counts, Ranks, clause_at};
 
 // Whether the clause has x, and a variable behind place n.
-fn reaches_far(clause: &[u16], ranks: &[u16], x: usize, n: usize) -> bool
-    requires { length ranks.now ≡ 1024 }
+fn reaches_far(clause: &[u16], ranks: &Ranks, x: usize, n: usize) -> bool
     ensures { (p : List ℕ) → ranks.now ≡ ranks_of p → good_entries p ≡ true → bound p clause.now ≡ true → result ≡ reaches_far (drop n p) x clause.now }
 {
-    if has_variable(clause, x) {
-        return !is_within(clause, ranks, n);
-    }
-    false
+    has_variable(clause, x) && !is_within(clause, ranks, n)
 }
 
 // The lowest clause that does; how many there are, if none does.
-fn far_clause(t: &[u16], c: Counts, ranks: &[u16], x: usize, n: usize) -> usize
+fn far_clause(t: &[u16], c: Counts, ranks: &Ranks, x: usize, n: usize) -> usize
     requires held { Held t.now c }
-    requires ranks_len { length ranks.now ≡ 1024 }
     ensures { (φ : Formula) → Holds φ t.now c → well_formed φ ≡ true → ranks.now ≡ ranks_of φ.prefix → far_part φ x ≡ drop n φ.prefix → result ≡ far_clause φ x }
 {
-    let mut i = 0;
-    while i < c.clauses {
+    for i in 0..c.clauses {
         if reaches_far(clause_at(t, c, i), ranks, x, n) {
             return i;
         }
-        i += 1;
     }
-    i
+    c.clauses
 }
 
 // The leftmost variable of the clause behind n entries; 0 where there is none.
 fn leftmost_behind(prefix: &[u16], n: usize, clause: &[u16]) -> usize
     ensures { result ≡ leftmost_in (drop n prefix.now) clause.now }
 {
-    let mut at = n;
-    while at < prefix.len() {
-        let v = (prefix[at] / 2) as usize;
-        if has_variable(clause, v) {
-            return v;
-        }
-        at += 1;
-    }
-    0
+    let first = prefix
+        .iter()
+        .skip(n)
+        .find(|q| has_variable(clause, (**q / 2) as usize));
+    (first.copied().unwrap_or(0) / 2) as usize
 }
 
 // The leftmost variable of clause i behind n entries; 0 where there is none.
@@ -71,9 +59,8 @@ fn far_variable(t: &[u16], c: Counts, n: usize, i: usize) -> usize
 }
 
 // What keeps x from being resolved.
-pub fn why_far(t: &[u16], c: Counts, ranks: &[u16], x: usize) -> Why
+pub fn why_far(t: &[u16], c: Counts, ranks: &Ranks, x: usize) -> Why
     requires held { Held t.now c }
-    requires ranks_len { length ranks.now ≡ 1024 }
     ensures { (φ : Formula) → Holds φ t.now c → well_formed φ ≡ true → ranks.now ≡ ranks_of φ.prefix → mentions φ.prefix x ≡ true → result ≡ why.TooFarRight (far_clause φ x) (far_variable φ x) (universal_after φ x) }
 {
     let k = c.variables;

@@ -5,11 +5,9 @@ mod behind;
 mod explaining;
 mod far;
 mod looking;
-mod variables;
 mod weights;
 
 pub use explaining::explain;
-pub use variables::has_variable;
 
 // The reasons. True, False: the formula has that verdict. NextEntry: the run's next log entry. OwnEntry: that of the step on the variable,
 // which counts. TooFarRight: a clause, its variable that is too far right, the first universal right of the variable. NotLighter: the

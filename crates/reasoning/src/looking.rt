@@ -3,7 +3,7 @@ ghost use Rattle.std.specs.Prelude.{◌≡◌, ℕ, ◌≤◌, true, length};
 ghost use Rattle.meaning.specs.Formula.{Formula, mentions, universal};
 ghost use Rattle.meaning.specs.WellFormed.{well_formed};
 ghost use Rattle.table.specs.Table.{Holds};
-ghost use Rattle.index.specs.Study.{Studied, Study};
+ghost use Rattle.index.specs.AtHand.{InHand};
 ghost use Rattle.choice.specs.Chosen.{Ranks, Ranked};
 ghost use Rattle.reasons.specs.Reason.{why_existential, why_universal, why_left};
 ghost use Rattle.reasons.specs.Statement.{Quiet};
@@ -14,24 +14,23 @@ use crate::Why;
 use crate::behind::{existential_after, universal_after};
 use crate::far::why_far;
 use crate::weights::{why_expand, why_resolve};
-use index::{build_index, put_tally};
+use index::{AtHand, build_index, put_tally};
 use permits::{expand_permitted, is_universal};
-use table::{Counts, rank_prefix};
+use table::{Counts, Ranks, rank_prefix};
 use weigh::may_resolve;
 
 // An existential.
-fn why_existential(t: &[u16], c: Counts, ranks: &[u16], index: &[u16], x: usize) -> Why
-    requires { Study t.now c ranks.now index.now }
-    ensures { (φ : Formula) (E : ℕ) → Studied φ t.now c ranks.now index.now → mentions φ.prefix x ≡ true → result ≡ why_as (why_existential E φ x) }
+fn why_existential(at: &AtHand, x: usize) -> Why
+    ensures { (φ : Formula) (E : ℕ) → InHand φ at.now → mentions φ.prefix x ≡ true → result ≡ why_as (why_existential E φ x) }
 {
-    if may_resolve(t, c, ranks, index, x) {
-        return why_resolve(t, c, ranks, index, x);
+    if may_resolve(at, x) {
+        return why_resolve(at, x);
     }
-    why_far(t, c, ranks, x)
+    why_far(at.table, at.counts, at.ranks, x)
 }
 
 // A universal.
-fn why_universal(t: &[u16], c: Counts, ranks: &[u16], u: usize, allowance: usize) -> Why
+fn why_universal(t: &[u16], c: Counts, ranks: &Ranks, u: usize, allowance: usize) -> Why
     requires { Ranked t.now c ranks.now × (allowance ≤ 1000) }
     ensures { (φ : Formula) → Ranks φ t.now c ranks.now → Quiet φ → universal φ.prefix u ≡ true → result ≡ why_as (why_universal allowance φ u) }
 {
@@ -55,5 +54,11 @@ pub fn why_left(t: &[u16], c: Counts, spare: &mut [u16], v: usize, allowance: us
     }
     put_tally(t, c, spare);
     build_index(t, c, spare);
-    why_existential(t, c, &ranks, spare, v)
+    let at = AtHand {
+        table: t,
+        counts: c,
+        ranks: &ranks,
+        index: spare,
+    };
+    why_existential(&at, v)
 }

@@ -5,7 +5,7 @@ use mathlib.Core.Path.{◌≡◌, refl, sym, ap, ◌∙◌}
 use mathlib.Core.Bool.{Bool, true, false, not, cond}
 use mathlib.Core.List.{List, [], ◌∷◌, ◌++◌}
 use lib.ListN.{length, get_or, take}
-use lib.Seq.{take-suc, take_all, get_or-take, length-take-le}
+use lib.Seq.{take-suc, take_all, length-take-le}
 use lib.Dec.{leb}
 use borrow.Author.Tests.{eq-eqb, ne_eqb}
 use native.Mathlib.Omega.{arith}
@@ -16,13 +16,13 @@ use Rattle.meaning.specs.WellFormed.{literals, fits, max_variables}
 use Rattle.table.specs.Table.{table_of, counts_of, with_variable, empty_formula, Holds}
 use Rattle.table.specs.Answer.{Became}
 use Rattle.table.specs.declared.Counts.{Counts}
-use Rattle.table.specs.declared.Pushed.{Pushed}
-use Rattle.table.specs.declared.Pushed.TheVariants.{Done, Full}
+use Rattle.std.specs.Option.{unwrap_or}
+use Rattle.std.specs.Prelude.{Option, Some, None}
 use Rattle.rebuilds.specs.Raws.{bare, keep_entry}
 use Rattle.meaning.proofs.Basics.{and_l, and_r, and_i, clash}
 use Rattle.meaning.proofs.Lists.{all-keep-le}
 use Rattle.meaning.proofs.Parts.{room_of, of_room}
-use Rattle.table.proofs.HoldLaws.{count-variables, prefix-is, empty_holds}
+use Rattle.table.proofs.HoldLaws.{prefix-is, empty_holds}
 use Rattle.table.proofs.AnswerLaws.{became-done, became-second, became-full}
 
 -- One entry -----------------------------------------------------------------------------------------------------
@@ -31,16 +31,20 @@ module _ {ψ : Formula} {t : List ℕ} {e : Counts} (h : Holds ψ t e) (v q : �
   unfolding keep_entry is_var var
   keep-skip k = rw (eq-eqb (q / 2) v k) h
 
-  module _ (other : q / 2 ≡ v → ⊥) (r : Pushed) (t' : List ℕ) (b : Became ψ (with_variable ψ q) e.second r t') where
+  module _ (other : q / 2 ≡ v → ⊥) (r : Option Counts) (t' : List ℕ) (b : Became ψ (with_variable ψ q) e.second r t') where
     keep-is : keep_entry v ψ q ≡ with_variable ψ q
     unfolding keep_entry is_var var
     keep-is = rw (ne_eqb (q / 2) v other)
 
-    pub keep-push : (d : Counts) → r ≡ Done d → Holds (keep_entry v ψ q) t' d × (d.second ≡ e.second)
+    keep-push : (d : Counts) → r ≡ Some d → Holds (keep_entry v ψ q) t' d × (d.second ≡ e.second)
     keep-push d p = (rw keep-is (became-done ψ (with_variable ψ q) e.second r t' b d p), became-second ψ (with_variable ψ q) e.second r t' b d p)
 
-    pub keep-full : {A : Type 0} → fits (keep_entry v ψ q) ≡ true → r ≡ Full → A
-    keep-full f p = clash (ap fits (sym keep-is) ∙ f) (became-full ψ (with_variable ψ q) e.second r t' b p)
+    pub keep-or : fits (keep_entry v ψ q) ≡ true → {x : Counts} → x ≡ unwrap_or r e → Holds (keep_entry v ψ q) t' x × (x.second ≡ e.second)
+    keep-or f {x} is = go r refl is
+      where
+        go : (o : Option Counts) → r ≡ o → x ≡ unwrap_or o e → Holds (keep_entry v ψ q) t' x × (x.second ≡ e.second)
+        go (Some d) p s = rw s (keep-push d p)
+        go None p s = clash (ap fits (sym keep-is) ∙ f) (became-full ψ (with_variable ψ q) e.second r t' b p)
 
 -- All entries ---------------------------------------------------------------------------------------------------
 drop-snoc : (v : ℕ) (p : List ℕ) (q : ℕ) → drop_var v (p ++ (q ∷ [])) ≡ cond (is_var v q) (drop_var v p) (drop_var v p ++ (q ∷ []))
@@ -106,17 +110,20 @@ pub copy_start : (v : ℕ) (p t : List ℕ) (b : Bool) → t ≡ table_of empty_
 unfolding bare drop_var keep_if empty_formula counts_of literals
 copy_start v p t b h e q = empty_holds t e b h q
 
-module _ (φ : Formula) (t : List ℕ) (c : Counts) (h : Holds φ t c) (i : ℕ) (more : i < c.variables) (v : ℕ) where
-  entry-is : get_or t i 0 ≡ get_or φ.prefix i 0
-  entry-is = sym (get_or-take c.variables t i 0 more) ∙ ap (λ (l : List ℕ). get_or l i 0) (prefix-is h)
+module _ (φ : Formula) (t : List ℕ) (c : Counts) (h : Holds φ t c) (i : ℕ) (more : i < length (take c.variables t)) (v : ℕ) where
+  entry-is : get_or (take c.variables t) i 0 ≡ get_or φ.prefix i 0
+  entry-is = ap (λ (l : List ℕ). get_or l i 0) (prefix-is h)
 
-  next-is : keep_entry v (bare (drop_var v (take i φ.prefix))) (get_or t i 0) ≡ bare (drop_var v (take (i + 1) φ.prefix))
-  next-is = ap (keep_entry v (bare (drop_var v (take i φ.prefix)))) entry-is ∙ keep-next v φ.prefix i (omega (arith, count-variables h))
+  within : i < length φ.prefix
+  within = omega (arith, ap length (prefix-is h))
 
-  pub copy-fits : fits (keep_entry v (bare (drop_var v (take i φ.prefix))) (get_or t i 0)) ≡ true
-  copy-fits = ap fits next-is ∙ bare-fits φ v (i + 1) h.fitting (omega (arith, count-variables h))
+  next-is : keep_entry v (bare (drop_var v (take i φ.prefix))) (get_or (take c.variables t) i 0) ≡ bare (drop_var v (take (i + 1) φ.prefix))
+  next-is = ap (keep_entry v (bare (drop_var v (take i φ.prefix)))) entry-is ∙ keep-next v φ.prefix i within
 
-  pub copy-turn : (t' : List ℕ) (e : Counts) → Holds (keep_entry v (bare (drop_var v (take i φ.prefix))) (get_or t i 0)) t' e → Holds (bare (drop_var v (take (i + 1) φ.prefix))) t' e
+  pub copy-fits : fits (keep_entry v (bare (drop_var v (take i φ.prefix))) (get_or (take c.variables t) i 0)) ≡ true
+  copy-fits = ap fits next-is ∙ bare-fits φ v (i + 1) h.fitting (omega (arith, within))
+
+  pub copy-turn : (t' : List ℕ) (e : Counts) → Holds (keep_entry v (bare (drop_var v (take i φ.prefix))) (get_or (take c.variables t) i 0)) t' e → Holds (bare (drop_var v (take (i + 1) φ.prefix))) t' e
   copy-turn t' e k = rw next-is at k
 
 pub copy-end : (v : ℕ) (p : List ℕ) (i : ℕ) → length p ≤ i → (t : List ℕ) (c : Counts) → Holds (bare (drop_var v (take i p))) t c → Holds (bare (drop_var v p)) t c

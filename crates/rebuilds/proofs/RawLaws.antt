@@ -16,8 +16,7 @@ use Rattle.table.specs.Table.{decode, with_new_clause, with_raw, Holds}
 use Rattle.table.specs.Answer.{Became, Built}
 use Rattle.table.specs.Ranks.{ranks_of, good_entries, Ranked}
 use Rattle.table.specs.declared.Counts.{Counts}
-use Rattle.table.specs.declared.Pushed.{Pushed}
-use Rattle.table.specs.declared.Pushed.TheVariants.{Done, Full}
+use Rattle.std.specs.Prelude.{Option, Some, None}
 use Rattle.rebuilds.specs.Raws.{bare, with_raws, Going}
 use Rattle.recipes.specs.Recipe.{Ready, taken, fed, raw_by, raws_by, remade}
 use Rattle.recipes.specs.Left.{Shrunk}
@@ -45,7 +44,7 @@ module _ {ψ : Formula} {t ranks : List ℕ} {d : Counts} (h : Holds ψ t d) (r 
 
 -- One clause ------------------------------------------------------------------------------------------------------
 -- what becomes of it, over the prefix in the table
-pub fed-here : (u : Turn) {ψ : Formula} {t : List ℕ} {d : Counts} → Holds ψ t d → (i : ℕ) (c : List ℕ) (s : Bool) (r : Pushed) (t' : List ℕ)
+pub fed-here : (u : Turn) {ψ : Formula} {t : List ℕ} {d : Counts} → Holds ψ t d → (i : ℕ) (c : List ℕ) (s : Bool) (r : Option Counts) (t' : List ℕ)
     → Became ψ (with_raw ψ (fed u (take d.variables t) i c)) s r t' → Became ψ (with_raw ψ (fed u ψ.prefix i c)) s r t'
 fed-here u {ψ} {t} {d} h i c s r t' k = subst (λ (p : List ℕ). Became ψ (with_raw ψ (fed u p i c)) s r t') (prefix-is h) k
 
@@ -53,15 +52,15 @@ module _ (w : Which) (u : Turn) {ψ : Formula} {t : List ℕ} {d : Counts} (h : 
   taken_is : taken w ψ.prefix i c ≡ b
   taken_is = ap (λ (p : List ℕ). taken w p i c) (sym (prefix-is h)) ∙ sym is
 
-  pub one_left : b ≡ false → Built (with_raws ψ (raw_by w u ψ.prefix i c)) d.second (Done d) t
+  pub one_left : b ≡ false → Built (with_raws ψ (raw_by w u ψ.prefix i c)) d.second (Some d) t
   unfolding raw_by with_raws build_on
   one_left n = rw (taken_is, n) (built-there h)
 
-  pub one-changed : b ≡ true → (r : Pushed) (t' : List ℕ) → Became ψ (with_raw ψ (fed u ψ.prefix i c)) d.second r t' → Built (with_raws ψ (raw_by w u ψ.prefix i c)) d.second r t'
+  pub one-changed : b ≡ true → (r : Option Counts) (t' : List ℕ) → Became ψ (with_raw ψ (fed u ψ.prefix i c)) d.second r t' → Built (with_raws ψ (raw_by w u ψ.prefix i c)) d.second r t'
   unfolding raw_by with_raws build_on with_raw
   one-changed n r t' k = rw (taken_is, n) (built_of k)
 
-  pub one-taken : b ≡ true → (r : Pushed) (t' : List ℕ) → Became ψ (with_raw ψ (fed u (take d.variables t) i c)) d.second r t' → Built (with_raws ψ (raw_by w u ψ.prefix i c)) d.second r t'
+  pub one-taken : b ≡ true → (r : Option Counts) (t' : List ℕ) → Became ψ (with_raw ψ (fed u (take d.variables t) i c)) d.second r t' → Built (with_raws ψ (raw_by w u ψ.prefix i c)) d.second r t'
   one-taken n r t' k = one-changed n r t' (fed-here u h i c d.second r t' k)
 
   -- a clause that lasts comes as it stands
@@ -69,24 +68,24 @@ module _ (w : Which) (u : Turn) {ψ : Formula} {t : List ℕ} {d : Counts} (h : 
   unfolding with_raw with_new_clause
   stands e = rw e
 
-  pub one-stays : b ≡ true → tidy ψ.prefix (fed u ψ.prefix i c) ≡ kept c → (r : Pushed) (t' : List ℕ) → Became ψ (with_new_clause ψ c) d.second r t' → Built (with_raws ψ (raw_by w u ψ.prefix i c)) d.second r t'
+  pub one-stays : b ≡ true → tidy ψ.prefix (fed u ψ.prefix i c) ≡ kept c → (r : Option Counts) (t' : List ℕ) → Became ψ (with_new_clause ψ c) d.second r t' → Built (with_raws ψ (raw_by w u ψ.prefix i c)) d.second r t'
   one-stays n e r t' k = one-changed n r t' (subst (λ (χ : Formula). Became ψ χ d.second r t') (stands e) k)
 
 -- All clauses -----------------------------------------------------------------------------------------------------
 module _ (w : Which) (u : Turn) (ψ : Formula) (cs : List (List ℕ)) {all : List (List ℕ)} (b : Bool) (t : List ℕ) (e : Counts) (i : ℕ)
     (g : Going ψ all (raws_by w u ψ.prefix i (drop i cs)) b t e) where
-  pub all_end : length cs ≤ i → Built (with_raws ψ all) b (Done e) t
+  pub all_end : length cs ≤ i → Built (with_raws ψ all) b (Some e) t
   unfolding raws_by
   all_end h = going_end ψ all (raws_by w u ψ.prefix i (drop i cs)) b t e g (rw (drop_of_length-le cs {i = i} h))
 
   -- the rest at once
-  pub all-on : (r : Pushed) (t' : List ℕ) → Built (with_raws g.formula (raws_by w u g.formula.prefix i (drop i cs))) e.second r t' → Built (with_raws ψ all) b r t'
+  pub all-on : (r : Option Counts) (t' : List ℕ) → Built (with_raws g.formula (raws_by w u g.formula.prefix i (drop i cs))) e.second r t' → Built (with_raws ψ all) b r t'
   all-on r t' k =
       let p : Built (with_raws g.formula (raws_by w u ψ.prefix i (drop i cs))) e.second r t' =
       subst (λ (x : List ℕ). Built (with_raws g.formula (raws_by w u x i (drop i cs))) e.second r t') g.prefix k in
       rw (g.second, g.left) at p
 
-  module _ (h : i < length cs) (c : List ℕ) (is : c ≡ get_or cs i []) (r : Pushed) (t' : List ℕ) (k : Built (with_raws g.formula (raw_by w u g.formula.prefix i c)) e.second r t') where
+  module _ (h : i < length cs) (c : List ℕ) (is : c ≡ get_or cs i []) (r : Option Counts) (t' : List ℕ) (k : Built (with_raws g.formula (raw_by w u g.formula.prefix i c)) e.second r t') where
     split : raws_by w u ψ.prefix i (drop i cs) ≡ raw_by w u ψ.prefix i c ++ raws_by w u ψ.prefix (i + 1) (drop (i + 1) cs)
     unfolding raws_by
     split = rw (add-one, drop-cons cs i [] h, is)
@@ -94,10 +93,10 @@ module _ (w : Which) (u : Turn) (ψ : Formula) (cs : List (List ℕ)) {all : Lis
     built : Built (with_raws g.formula (raw_by w u ψ.prefix i c)) e.second r t'
     built = subst (λ (p : List ℕ). Built (with_raws g.formula (raw_by w u p i c)) e.second r t') g.prefix k
 
-    pub all-next : (e' : Counts) → r ≡ Done e' → Going ψ all (raws_by w u ψ.prefix (i + 1) (drop (i + 1) cs)) b t' e'
+    pub all-next : (e' : Counts) → r ≡ Some e' → Going ψ all (raws_by w u ψ.prefix (i + 1) (drop (i + 1) cs)) b t' e'
     all-next = going_next ψ all (raws_by w u ψ.prefix i (drop i cs)) b t e g (raw_by w u ψ.prefix i c) (raws_by w u ψ.prefix (i + 1) (drop (i + 1) cs)) split r t' built
 
-    pub all-full : r ≡ Full → Built (with_raws ψ all) b Full t'
+    pub all-full : r ≡ None → Built (with_raws ψ all) b None t'
     all-full = going-full ψ all (raws_by w u ψ.prefix i (drop i cs)) b t e g (raw_by w u ψ.prefix i c) (raws_by w u ψ.prefix (i + 1) (drop (i + 1) cs)) split r t' built
 
 -- The whole ---------------------------------------------------------------------------------------------------------
@@ -112,12 +111,12 @@ pub copied-good : {φ : Formula} {t : List ℕ} {c : Counts} → Holds φ t c �
 unfolding bare
 copied-good {φ} {t} {c} h g v = good-drop v φ.prefix (ap good_prefix (sym (prefix-is h)) ∙ g)
 
-pub remade-built : (w : Which) (u : Turn) (v : ℕ) (φ : Formula) (s b : Bool) (r : Pushed) (t : List ℕ) → Built (with_raws (bare (drop_var v φ.prefix)) (raws_by w u (bare (drop_var v φ.prefix)).prefix 0 φ.clauses)) s r t → s ≡ b → Built (tidied (remade w u v φ)) b r t
+pub remade-built : (w : Which) (u : Turn) (v : ℕ) (φ : Formula) (s b : Bool) (r : Option Counts) (t : List ℕ) → Built (with_raws (bare (drop_var v φ.prefix)) (raws_by w u (bare (drop_var v φ.prefix)).prefix 0 φ.clauses)) s r t → s ≡ b → Built (tidied (remade w u v φ)) b r t
 unfolding bare with_raws tidied build remade
 remade-built w u v φ s b r t k e = rw e at k
 
 -- the ranks are still those of the prefix once raw clauses are added
-pub ready-after : {ψ : Formula} {t ranks : List ℕ} {d : Counts} → Holds ψ t d → Ready (take d.variables t) ranks → (raws : List (List ℕ)) (s : Bool) (r : Pushed) (t' : List ℕ) → Built (with_raws ψ raws) s r t' → (e : Counts) → r ≡ Done e → Ready (take e.variables t') ranks
+pub ready-after : {ψ : Formula} {t ranks : List ℕ} {d : Counts} → Holds ψ t d → Ready (take d.variables t) ranks → (raws : List (List ℕ)) (s : Bool) (r : Option Counts) (t' : List ℕ) → Built (with_raws ψ raws) s r t' → (e : Counts) → r ≡ Some e → Ready (take e.variables t') ranks
 unfolding with_raws
 ready-after {ψ} {t} {ranks} {d} h q raws s r t' k e p = ready-as h q (built-done (with_raws ψ raws) s r t' k e p) refl
 
@@ -126,7 +125,7 @@ ready-after {ψ} {t} {ranks} {d} h q raws s r t' k e p = ready-as h q (built-don
 pub shrunk-as : {v : ℕ} {φ ψ : Formula} {t : List ℕ} {d : Counts} → Holds ψ t d → Shrunk v (take d.variables t) φ → (p : List ℕ) → p ≡ ψ.prefix → Shrunk v p φ
 shrunk-as {v} {φ} {ψ} {t} {d} h s p e = subst (λ (x : List ℕ). Shrunk v x φ) (prefix-is h ∙ sym e) s
 
-pub shrunk-after : {v : ℕ} {φ ψ : Formula} {t : List ℕ} {d : Counts} → Holds ψ t d → Shrunk v (take d.variables t) φ → (raws : List (List ℕ)) (s : Bool) (r : Pushed) (t' : List ℕ) → Built (with_raws ψ raws) s r t' → (e : Counts) → r ≡ Done e → Shrunk v (take e.variables t') φ
+pub shrunk-after : {v : ℕ} {φ ψ : Formula} {t : List ℕ} {d : Counts} → Holds ψ t d → Shrunk v (take d.variables t) φ → (raws : List (List ℕ)) (s : Bool) (r : Option Counts) (t' : List ℕ) → Built (with_raws ψ raws) s r t' → (e : Counts) → r ≡ Some e → Shrunk v (take e.variables t') φ
 unfolding with_raws
 shrunk-after {v} {φ} {ψ} {t} {d} h q raws s r t' k e p = shrunk-as h q (take e.variables t') (prefix-is (built-done (with_raws ψ raws) s r t' k e p))
 

@@ -5,7 +5,7 @@ ghost use Rattle.meaning.specs.WellFormed.{fits};
 ghost use Rattle.table.specs.Table.{empty_formula, table_of, Holds, Held};
 ghost use Rattle.rebuilds.specs.Raws.{bare, keep_entry};
 
-use table::{Counts, Pushed, push_variable};
+use table::{Counts, push_variable};
 
 // The entry at the right end of the prefix, unless it is of variable v. There is room for it.
 fn keep_entry(target: &mut [u16], e: Counts, q: u16, v: u16) -> Counts
@@ -15,10 +15,7 @@ fn keep_entry(target: &mut [u16], e: Counts, q: u16, v: u16) -> Counts
     if q / 2 == v {
         return e;
     }
-    match push_variable(target, e, q) {
-        Pushed::Done(next) => next,
-        Pushed::Full => e,
-    }
+    push_variable(target, e, q).unwrap_or(e)
 }
 
 // The prefix of the source without variable v, in a target that is all zero.
@@ -29,15 +26,11 @@ pub fn copy_prefix(source: &[u16], c: Counts, v: u16, target: &mut [u16], second
     ensures second_value { result.second ≡ second }
 {
     let mut e = Counts {
-        variables: 0,
-        clauses: 0,
-        literals: 0,
         second,
+        ..Counts::empty()
     };
-    let mut i = 0;
-    while i < c.variables {
-        e = keep_entry(target, e, source[i], v);
-        i += 1;
+    for q in &source[..c.variables] {
+        e = keep_entry(target, e, *q, v);
     }
     e
 }

@@ -2,7 +2,7 @@
 // as it stands: it can only equal a clause that was there at the start or one that changed, and a filter has the stamps of these.
 // What becomes of a clause that changes is tidied, and looked for among all clauses of the target; such clauses are few. Up to the first
 // of them no filter is wanted: see leading.
-ghost use Rattle.std.specs.Prelude.{◌≡◌, ℕ, true, not, List, [], ◌∷◌, ◌++◌, length, take, drop};
+ghost use Rattle.std.specs.Prelude.{◌≡◌, ℕ, true, not, List, [], ◌∷◌, ◌++◌, length, take, drop, Some};
 ghost use Rattle.meaning.specs.Formula.{Formula};
 ghost use Rattle.meaning.specs.Tidy.{tidied};
 ghost use Rattle.meaning.specs.WellFormed.{well_formed};
@@ -13,12 +13,12 @@ ghost use Rattle.rebuilds.specs.Raws.{with_raws};
 ghost use Rattle.recipes.specs.Recipe.{Ready, fed, raw_by, raws_by, remade};
 ghost use Rattle.recipes.specs.Left.{about, Lasts, Shrunk};
 
-use crate::leading::{Lead, copy_lead};
+use crate::leading::copy_lead;
 use crate::prefixes::copy_prefix;
 use crate::turning::add_each_turned;
 use filter::{add_apart, close_stamped, cover};
 use recipes::{Turn, Which, feed, is_left, is_taken, leaves_none};
-use table::{Counts, Pending, Pushed, clause_at, rank_prefix};
+use table::{Counts, Ranks, Scratch, clause_at, rank_prefix};
 
 // What becomes of clause i where it changes. Its stamp goes into the filter.
 fn add_changed(
@@ -27,27 +27,18 @@ fn add_changed(
     clause: &[u16],
     i: usize,
     turn: Turn,
-    scratch: &mut [u16],
-    ranks: &[u16],
+    scratch: &mut Scratch,
+    ranks: &Ranks,
     filter: &mut [u64],
-) -> Pushed
+) -> Option<Counts>
     requires held { Held target.old d }
     requires ready { Ready (take d.variables target.old) ranks.now }
-    requires scratch_len { length scratch.old ≡ 1023 }
     requires filter_len { length filter.old ≡ 8 }
     ensures became { (ψ : Formula) → Holds ψ target.old d → Became ψ (with_raw ψ (fed turn ψ.prefix i clause.now)) d.second result target.new }
-    ensures by_index { (others : List (List ℕ)) (e : Counts) → CoversBut others target.old d filter.old → result ≡ Pushed.Done e → CoversBut others target.new e filter.new }
+    ensures covers_after { (others : List (List ℕ)) (e : Counts) → CoversBut others target.old d filter.old → result ≡ Some e → CoversBut others target.new e filter.new }
 {
     let n = d.variables;
-    let p = feed(
-        scratch,
-        Pending::empty(),
-        clause,
-        i,
-        turn,
-        &target[..n],
-        ranks,
-    );
+    let p = feed(scratch, Some(0), clause, i, turn, &target[..n], ranks);
     close_stamped(target, d, scratch, p, ranks, filter)
 }
 
@@ -60,15 +51,14 @@ fn add_one(
     v: u16,
     which: Which,
     turn: Turn,
-    scratch: &mut [u16],
-    ranks: &[u16],
+    scratch: &mut Scratch,
+    ranks: &Ranks,
     filter: &mut [u64],
-) -> Pushed
+) -> Option<Counts>
     requires held { Held target.old d }
     requires ready { Ready (take d.variables target.old) ranks.now }
-    requires scratch_len { length scratch.old ≡ 1023 }
     requires filter_len { length filter.old ≡ 8 }
-    ensures { (ψ : Formula) (others : List (List ℕ)) → Holds ψ target.old d → CoversBut others target.old d filter.old → Lasts turn v ψ.prefix others i clause.now → Built (with_raws ψ (raw_by which turn ψ.prefix i clause.now)) d.second result target.new × ((e : Counts) → result ≡ Pushed.Done e → CoversBut (others ++ (clause.now ∷ [])) target.new e filter.new) }
+    ensures { (ψ : Formula) (others : List (List ℕ)) → Holds ψ target.old d → CoversBut others target.old d filter.old → Lasts turn v ψ.prefix others i clause.now → Built (with_raws ψ (raw_by which turn ψ.prefix i clause.now)) d.second result target.new × ((e : Counts) → result ≡ Some e → CoversBut (others ++ (clause.now ∷ [])) target.new e filter.new) }
 {
     if is_taken(which, ranks, i, clause) {
         if is_left(turn, v, i, clause) {
@@ -76,7 +66,7 @@ fn add_one(
         }
         return add_changed(target, d, clause, i, turn, scratch, ranks, filter);
     }
-    Pushed::Done(d)
+    Some(d)
 }
 
 // What becomes of the clauses of the source from one on. The filter covers the target but for the clauses before it.
@@ -89,49 +79,30 @@ fn add_each(
     v: u16,
     which: Which,
     turn: Turn,
-    scratch: &mut [u16],
-    ranks: &[u16],
+    scratch: &mut Scratch,
+    ranks: &Ranks,
     filter: &mut [u64],
-) -> Pushed
+) -> Option<Counts>
     requires held { Held source.now c }
-    requires held_2 { Held target.old d }
+    requires held_target { Held target.old d }
     requires ready { Ready (take d.variables target.old) ranks.now }
-    requires scratch_len { length scratch.old ≡ 1023 }
     requires shrunk { Shrunk v (take d.variables target.old) (decode source.now c) × (about turn v ≡ true) }
     requires covers_but { CoversBut (take from (decode source.now c).clauses) target.old d filter.old }
     ensures { (φ ψ : Formula) → Holds φ source.now c → Holds ψ target.old d → Built (with_raws ψ (raws_by which turn ψ.prefix from (drop from φ.clauses))) d.second result target.new }
 {
     let mut e = d;
-    let mut i = from;
-    while i < c.clauses {
-        match add_one(
-            target,
-            e,
-            clause_at(source, c, i),
-            i,
-            v,
-            which,
-            turn,
-            scratch,
-            ranks,
-            filter,
-        ) {
-            Pushed::Done(next) => {
-                // Field by field: taken over whole, the record would be read before all of it is written, and the loop would wait.
-                e = Counts {
-                    variables: next.variables,
-                    clauses: next.clauses,
-                    literals: next.literals,
-                    second: next.second,
-                };
-            }
-            Pushed::Full => {
-                return Pushed::Full;
-            }
-        }
-        i += 1;
+    for i in from..c.clauses {
+        let clause = clause_at(source, c, i);
+        let next = add_one(target, e, clause, i, v, which, turn, scratch, ranks, filter)?;
+        // Field by field: taken over whole, the record is read before all of it is written, and the loop waits.
+        e = Counts {
+            variables: next.variables,
+            clauses: next.clauses,
+            literals: next.literals,
+            second: next.second,
+        };
     }
-    Pushed::Done(e)
+    Some(e)
 }
 
 // What becomes of all clauses of the source, where variable v is dropped and the turn is about no other. The filter is made here for
@@ -144,13 +115,12 @@ pub fn add_all(
     v: u16,
     which: Which,
     turn: Turn,
-    scratch: &mut [u16],
-    ranks: &[u16],
-) -> Pushed
+    scratch: &mut Scratch,
+    ranks: &Ranks,
+) -> Option<Counts>
     requires held { Held source.now c }
-    requires held_2 { Held target.old d }
+    requires held_target { Held target.old d }
     requires ready { Ready (take d.variables target.old) ranks.now }
-    requires scratch_len { length scratch.old ≡ 1023 }
     requires shrunk { Shrunk v (take d.variables target.old) (decode source.now c) × (about turn v ≡ true) }
     ensures { (φ ψ : Formula) → Holds φ source.now c → Holds ψ target.old d → Built (with_raws ψ (raws_by which turn ψ.prefix 0 φ.clauses)) d.second result target.new }
 {
@@ -169,27 +139,24 @@ pub fn add_all(
             &mut filter,
         );
     }
-    match copy_lead(source, c, target, d, v, which, turn, ranks) {
-        Lead::Upto(i, e) => {
-            add_each(
-                source,
-                c,
-                target,
-                e,
-                i,
-                v,
-                which,
-                turn,
-                scratch,
-                ranks,
-                &mut filter,
-            )
-        }
-        Lead::Over => Pushed::Full,
-    }
+    let (i, e) = copy_lead(source, c, target, d, v, which, turn, ranks)?;
+    add_each(
+        source,
+        c,
+        target,
+        e,
+        i,
+        v,
+        which,
+        turn,
+        scratch,
+        ranks,
+        &mut filter,
+    )
 }
 
 // The source's formula remade by a recipe, in a target that is all zero. Variable v is dropped; 0 is none.
+// Kept: a number and no Option, since the definitions remade and about take that number.
 pub fn rebuild(
     source: &[u16],
     c: Counts,
@@ -197,15 +164,14 @@ pub fn rebuild(
     target: &mut [u16],
     which: Which,
     turn: Turn,
-    scratch: &mut [u16],
-    ranks: &mut [u16],
-) -> Pushed
+    scratch: &mut Scratch,
+    ranks: &mut Ranks,
+) -> Option<Counts>
     requires held { Held source.now c }
     requires c_value { (well_formed (decode source.now c) ≡ true) × (about turn v ≡ true) }
     requires target_value { target.old ≡ table_of empty_formula }
-    requires scratch_len { (length scratch.old ≡ 1023) × (length ranks.old ≡ 1024) }
     ensures built { (φ : Formula) → Holds φ source.now c → Built (tidied (remade which turn v φ)) (not c.second) result target.new }
-    ensures ready { (d : Counts) → result ≡ Pushed.Done d → Ready (take d.variables target.new) ranks.new }
+    ensures ready { (d : Counts) → result ≡ Some d → Ready (take d.variables target.new) ranks.new }
 {
     let d = copy_prefix(source, c, v, target, !c.second);
     let n = d.variables;

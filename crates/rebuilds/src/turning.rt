@@ -1,6 +1,6 @@
 // A pass over the source's clauses in which none that is taken stays as it was: what becomes of each by a recipe is tidied and added
 // to the target. A filter goes with the target, so that hardly any clause has to be looked for there.
-ghost use Rattle.std.specs.Prelude.{◌≡◌, length, take};
+ghost use Rattle.std.specs.Prelude.{◌≡◌, length, take, Some};
 ghost use Rattle.meaning.specs.Formula.{Formula};
 ghost use Rattle.table.specs.Table.{Holds, Held};
 ghost use Rattle.table.specs.Answer.{Built};
@@ -10,7 +10,7 @@ ghost use Rattle.recipes.specs.Recipe.{Ready, raw_by, raws_by};
 
 use filter::close_filtered;
 use recipes::{Turn, Which, feed, is_taken};
-use table::{Counts, Pending, Pushed, clause_at};
+use table::{Counts, Ranks, Scratch, clause_at};
 
 // What becomes of clause i.
 fn add_turned(
@@ -20,31 +20,22 @@ fn add_turned(
     i: usize,
     which: Which,
     turn: Turn,
-    scratch: &mut [u16],
-    ranks: &[u16],
+    scratch: &mut Scratch,
+    ranks: &Ranks,
     filter: &mut [u64],
-) -> Pushed
+) -> Option<Counts>
     requires held { Held target.old d }
     requires ready { Ready (take d.variables target.old) ranks.now }
-    requires scratch_len { length scratch.old ≡ 1023 }
     requires covers { Covers target.old d filter.old }
     ensures built { (ψ : Formula) → Holds ψ target.old d → Built (with_raws ψ (raw_by which turn ψ.prefix i clause.now)) d.second result target.new }
-    ensures covers_2 { (e : Counts) → result ≡ Pushed.Done e → Covers target.new e filter.new }
+    ensures covers_after { (e : Counts) → result ≡ Some e → Covers target.new e filter.new }
 {
     if is_taken(which, ranks, i, clause) {
         let n = d.variables;
-        let p = feed(
-            scratch,
-            Pending::empty(),
-            clause,
-            i,
-            turn,
-            &target[..n],
-            ranks,
-        );
+        let p = feed(scratch, Some(0), clause, i, turn, &target[..n], ranks);
         return close_filtered(target, d, scratch, p, ranks, filter);
     }
-    Pushed::Done(d)
+    Some(d)
 }
 
 // What becomes of all clauses of the source. The filter covers the target.
@@ -55,46 +46,28 @@ pub fn add_each_turned(
     d: Counts,
     which: Which,
     turn: Turn,
-    scratch: &mut [u16],
-    ranks: &[u16],
+    scratch: &mut Scratch,
+    ranks: &Ranks,
     filter: &mut [u64],
-) -> Pushed
+) -> Option<Counts>
     requires held { Held source.now c }
-    requires held_2 { Held target.old d }
+    requires held_target { Held target.old d }
     requires ready { Ready (take d.variables target.old) ranks.now }
-    requires scratch_len { length scratch.old ≡ 1023 }
     requires covers { Covers target.old d filter.old }
     ensures built { (φ ψ : Formula) → Holds φ source.now c → Holds ψ target.old d → Built (with_raws ψ (raws_by which turn ψ.prefix 0 φ.clauses)) d.second result target.new }
-    ensures covers_2 { (e : Counts) → result ≡ Pushed.Done e → Covers target.new e filter.new }
+    ensures covers_after { (e : Counts) → result ≡ Some e → Covers target.new e filter.new }
 {
     let mut e = d;
-    let mut i = 0;
-    while i < c.clauses {
-        match add_turned(
-            target,
-            e,
-            clause_at(source, c, i),
-            i,
-            which,
-            turn,
-            scratch,
-            ranks,
-            filter,
-        ) {
-            Pushed::Done(next) => {
-                // Field by field: taken over whole, the record would be read before all of it is written, and the loop would wait.
-                e = Counts {
-                    variables: next.variables,
-                    clauses: next.clauses,
-                    literals: next.literals,
-                    second: next.second,
-                };
-            }
-            Pushed::Full => {
-                return Pushed::Full;
-            }
-        }
-        i += 1;
+    for i in 0..c.clauses {
+        let clause = clause_at(source, c, i);
+        let next = add_turned(target, e, clause, i, which, turn, scratch, ranks, filter)?;
+        // Field by field: taken over whole, the record is read before all of it is written, and the loop waits.
+        e = Counts {
+            variables: next.variables,
+            clauses: next.clauses,
+            literals: next.literals,
+            second: next.second,
+        };
     }
-    Pushed::Done(e)
+    Some(e)
 }

@@ -4,25 +4,24 @@ use Prim.Native.Nat.{ℕ, suc, ◌+◌, ◌-◌, ◌*◌, ◌/◌, ◌%◌, ◌�
 use mathlib.Core.Path.{◌≡◌, ap, ◌∙◌}
 use mathlib.Core.Bool.{Bool, true, false, ◌&&◌, not, cond}
 use mathlib.Core.List.{List, [], ◌∷◌, ◌++◌, append-nil, append_assoc}
-use lib.ListN.{length, get_or, take, drop}
+use lib.ListN.{length, get_or, take}
 use lib.Seq.{take-suc, take_all}
-use lib.Dec.{ltb, leb}
+use lib.Dec.{leb}
 use borrow.Author.Tests.{eq-eqb, ne_eqb, lt-ltb, le-ltb}
 use native.Mathlib.Omega.{arith}
 use native.Mathlib.Numerals.{add-one}
 use Rattle.meaning.specs.Lists.{all_of}
-use Rattle.meaning.specs.Formula.{var, opposite, is_var, mentions}
+use Rattle.meaning.specs.Formula.{var, opposite, is_var}
 use Rattle.rules.specs.Simplify.{replace_lit}
 use Rattle.table.specs.Ranks.{good_entries}
 use Rattle.table.specs.Pending.{in_range, Pends}
-use Rattle.table.specs.declared.Pending.{Pending}
+use Rattle.std.specs.Prelude.{Option}
 use Rattle.permits.specs.Places.{place_from, place_of}
 use Rattle.meaning.specs.WellFormed.{good_prefix}
-use Rattle.recipes.specs.Recipe.{Ready, reaches, less, copy_of, copied, turned, some_of, fed}
+use Rattle.recipes.specs.Recipe.{Ready, less, copy_of, copied, turned, some_of, fed}
 use Rattle.recipes.specs.declared.Turn.{Turn}
 use Rattle.table.proofs.RankLaws.{length-ranks}
 use Rattle.table.proofs.PendingLaws.{range-is, range-bounds}
-use Rattle.table.proofs.LoopLaws.{any_found, any-turn, any-end}
 use Rattle.meaning.proofs.Basics.{false_of, and_l, and_r}
 use Rattle.meaning.proofs.Prefix.{prefix-few}
 
@@ -44,38 +43,11 @@ place-small {q} {ranks} r v m e =
     omega (arith, place-le 0 q v, prefix-few 1023 q (and_l (good_prefix q) (all_of (λ x. leb (var x) 1023) q) r.good) (and_r (good_prefix q) (all_of (λ x. leb (var x) 1023) q) r.good))
 
 -- Which clauses -------------------------------------------------------------------------------------------------
-module _ (q s : List ℕ) (n i : ℕ) (inv : reaches q n s ≡ reaches q n (drop i s)) (m : ℕ) (at : m ≡ place_of q (get_or s i 0 / 2)) where
-  pub reaches-found : i < length s → n < m → true ≡ reaches q n s
-  unfolding reaches var
-  reaches-found h k = any_found (λ l. ltb n (place_of q (var l))) 0 s i inv h (rw (← at) (lt-ltb n m k))
-
-  pub reaches-turn : i < length s → m ≤ n → reaches q n s ≡ reaches q n (drop (i + 1) s)
-  unfolding reaches var
-  reaches-turn h k = any-turn (λ l. ltb n (place_of q (var l))) 0 s i inv h (rw (← at) (le-ltb n m k))
-
-pub reaches_end : (q s : List ℕ) (n i : ℕ) → reaches q n s ≡ reaches q n (drop i s) → length s ≤ i → false ≡ reaches q n s
-unfolding reaches
-reaches_end q s n i inv h = any-end (λ l. ltb n (place_of q (var l))) 0 s i inv h
-
 pub far-both : (a b h k : Bool) → h ≡ a → h ≡ true → k ≡ b → not k ≡ (a && not b)
 far-both a b h k e t d = rw (← e, t, ← d)
 
 pub far-near : (a b h : Bool) → h ≡ a → h ≡ false → false ≡ (a && b)
 far-near a b h e t = rw (← e, t)
-
--- no literal of variable v
-module _ (c : List ℕ) (v i : ℕ) (inv : mentions c v ≡ mentions (drop i c) v) where
-  pub lacks-found : i < length c → get_or c i 0 / 2 ≡ v → false ≡ not (mentions c v)
-  unfolding mentions is_var var
-  lacks-found h e = ap not (any_found (is_var v) 0 c i inv h (eq-eqb (get_or c i 0 / 2) v e))
-
-  pub lacks-turn : i < length c → (get_or c i 0 / 2 ≡ v → ⊥) → mentions c v ≡ mentions (drop (i + 1) c) v
-  unfolding mentions is_var var
-  lacks-turn h e = any-turn (is_var v) 0 c i inv h (ne_eqb (get_or c i 0 / 2) v e)
-
-  pub lacks-end : length c ≤ i → true ≡ not (mentions c v)
-  unfolding mentions
-  lacks-end h = ap not (any-end (is_var v) 0 c i inv h)
 
 -- One literal ---------------------------------------------------------------------------------------------------
 pub less-same : (l k : ℕ) → k ≡ l → 0 ≡ less l k
@@ -108,17 +80,17 @@ module _ (q : List ℕ) (s n k m : ℕ) (at : m ≡ place_of q (k / 2)) where
   copied-near h = rw (← at, le-ltb s m h)
 
 -- Some literal --------------------------------------------------------------------------------------------------
-pub some-low : (raw s : List ℕ) (p : Pending) (l : ℕ) → l < 2 → Pends raw s p → Pends (raw ++ some_of l) s p
+pub some-low : (raw s : List ℕ) (p : Option ℕ) (l : ℕ) → l < 2 → Pends raw s p → Pends (raw ++ some_of l) s p
 unfolding some_of
 some-low raw s p l h k =
     rw (false_of (in_range l) (λ t. let b = range-bounds l t in omega arith), append-nil raw) k
 
-pub some-high : (raw s : List ℕ) (p : Pending) (l : ℕ) → 2047 < l → Pends raw s p → Pends (raw ++ some_of l) s p
+pub some-high : (raw s : List ℕ) (p : Option ℕ) (l : ℕ) → 2047 < l → Pends raw s p → Pends (raw ++ some_of l) s p
 unfolding some_of
 some-high raw s p l h k =
     rw (false_of (in_range l) (λ t. let b = range-bounds l t in omega arith), append-nil raw) k
 
-pub some_is : (raw s : List ℕ) (p : Pending) (l : ℕ) → 2 ≤ l → l < 2048 → Pends (raw ++ (l ∷ [])) s p → Pends (raw ++ some_of l) s p
+pub some_is : (raw s : List ℕ) (p : Option ℕ) (l : ℕ) → 2 ≤ l → l < 2048 → Pends (raw ++ (l ∷ [])) s p → Pends (raw ++ some_of l) s p
 unfolding some_of
 some_is raw s p l a b k = rw (range-is l a b) k
 
@@ -128,13 +100,13 @@ unfolding fed
 fed-snoc t q i [] k = append-nil (some_of (turned t q i k))
 fed-snoc t q i (x ∷ c) k = rw (fed-snoc t q i c k, append_assoc)
 
-pub feed-start : (t : Turn) (q : List ℕ) (i : ℕ) (c raw s : List ℕ) (p : Pending) → Pends raw s p → Pends (raw ++ fed t q i (take 0 c)) s p
+pub feed-start : (t : Turn) (q : List ℕ) (i : ℕ) (c raw s : List ℕ) (p : Option ℕ) → Pends raw s p → Pends (raw ++ fed t q i (take 0 c)) s p
 unfolding fed
 feed-start t q i c raw s p h = rw (append-nil raw) h
 
-pub feed-turn : (t : Turn) (q : List ℕ) (i : ℕ) (c : List ℕ) (j : ℕ) → j < length c → (k : ℕ) → k ≡ turned t q i (get_or c j 0) → (raw s : List ℕ) (p : Pending) → Pends ((raw ++ fed t q i (take j c)) ++ some_of k) s p → Pends (raw ++ fed t q i (take (j + 1) c)) s p
+pub feed-turn : (t : Turn) (q : List ℕ) (i : ℕ) (c : List ℕ) (j : ℕ) → j < length c → (k : ℕ) → k ≡ turned t q i (get_or c j 0) → (raw s : List ℕ) (p : Option ℕ) → Pends ((raw ++ fed t q i (take j c)) ++ some_of k) s p → Pends (raw ++ fed t q i (take (j + 1) c)) s p
 feed-turn t q i c j h k e raw s p d =
     rw (add-one, take-suc c j 0 h, fed-snoc, ← e, ← append_assoc) d
 
-pub feed-end : (t : Turn) (q : List ℕ) (i : ℕ) (c : List ℕ) (j : ℕ) → length c ≤ j → (raw s : List ℕ) (p : Pending) → Pends (raw ++ fed t q i (take j c)) s p → Pends (raw ++ fed t q i c) s p
+pub feed-end : (t : Turn) (q : List ℕ) (i : ℕ) (c : List ℕ) (j : ℕ) → length c ≤ j → (raw s : List ℕ) (p : Option ℕ) → Pends (raw ++ fed t q i (take j c)) s p → Pends (raw ++ fed t q i c) s p
 feed-end t q i c j h raw s p d = rw (take_all j c h) at d

@@ -6,6 +6,7 @@ mod recipes;
 pub use recipes::{feed, is_left, is_taken, leaves_none};
 
 // Which clauses of the source are taken.
+// Kept: the two are values and no closures, since is_left and leaves_none look into a turn, and the definitions taken and turned do.
 #[derive(Clone, Copy)]
 pub enum Which {
     // all; all but one

@@ -1,53 +1,40 @@
 // Which clauses are taken, and what becomes of their literals.
-ghost use Rattle.std.specs.Prelude.{◌≡◌, ℕ, not, ◌&&◌, List, ◌++◌, length, get_or};
+ghost use Rattle.std.specs.Prelude.{◌≡◌, ℕ, not, ◌&&◌, List, ◌++◌, get_or};
 ghost use Rattle.meaning.specs.Lists.{has};
-ghost use Rattle.meaning.specs.Formula.{mentions};
 ghost use Rattle.rules.specs.Simplify.{replace_lit};
 ghost use Rattle.table.specs.Pending.{Pends, Pended};
 ghost use Rattle.recipes.specs.Recipe.{Ready, reaches, neither, copied, less, taken, turned, some_of, fed};
 ghost use Rattle.recipes.specs.Left.{left, leaves_none};
 
 use crate::{Turn, Which};
-use permits::place_of;
-use table::{Pending, contains, flip, put_literal};
+use permits::{has_variable, place_of};
+use table::{Pending, Ranks, Scratch, contains, flip, put_literal};
 
 // Whether a variable of the clause stands behind a place.
-fn reaches_behind(clause: &[u16], ranks: &[u16], place: usize) -> bool
-    requires { length ranks.now ≡ 1024 }
+fn reaches_behind(clause: &[u16], ranks: &Ranks, place: usize) -> bool
     ensures { (q : List ℕ) → Ready q ranks.now → result ≡ reaches q place clause.now }
 {
-    let mut i = 0;
-    while i < clause.len() {
-        let v = (clause[i] / 2) as usize;
-        if place < place_of(ranks, v) {
-            return true;
-        }
-        i += 1;
-    }
-    false
+    clause
+        .iter()
+        .any(|l| place < place_of(ranks, (*l / 2) as usize))
 }
 
 // Whether neither the literal nor its opposite is there: no literal is of its variable.
 fn has_neither(clause: &[u16], literal: u16) -> bool
     ensures { result ≡ neither literal clause.now }
 {
-    lacks(clause, literal / 2)
+    !has_variable(clause, (literal / 2) as usize)
 }
 
 // Whether a variable of the clause stands behind a place, and the literal is not there.
-fn is_far(clause: &[u16], ranks: &[u16], place: usize, literal: u16) -> bool
-    requires { length ranks.now ≡ 1024 }
+fn is_far(clause: &[u16], ranks: &Ranks, place: usize, literal: u16) -> bool
     ensures { (q : List ℕ) → Ready q ranks.now → result ≡ (reaches q place clause.now && not (has literal clause.now)) }
 {
-    if reaches_behind(clause, ranks, place) {
-        return !contains(clause, literal);
-    }
-    false
+    reaches_behind(clause, ranks, place) && !contains(clause, literal)
 }
 
 // Whether clause i is taken.
-pub fn is_taken(which: Which, ranks: &[u16], i: usize, clause: &[u16]) -> bool
-    requires { length ranks.now ≡ 1024 }
+pub fn is_taken(which: Which, ranks: &Ranks, i: usize, clause: &[u16]) -> bool
     ensures { (q : List ℕ) → Ready q ranks.now → result ≡ taken which q i clause.now }
 {
     match which {
@@ -87,14 +74,11 @@ fn replaced_in(literal: u16, old: u16, new: u16) -> u16
 fn entry_at(prefix: &[u16], at: usize) -> u16
     ensures { result ≡ get_or prefix.now at 0 }
 {
-    if at < prefix.len() {
-        return prefix[at];
-    }
-    0
+    prefix.get(at).copied().unwrap_or(0)
 }
 
 // What becomes of a literal where the variables behind a place have copies n places further right.
-fn copied_in(prefix: &[u16], ranks: &[u16], literal: u16, place: usize, n: u16) -> u16
+fn copied_in(prefix: &[u16], ranks: &Ranks, literal: u16, place: usize, n: u16) -> u16
     requires { Ready prefix.now ranks.now }
     ensures { result ≡ copied prefix.now place n literal }
 {
@@ -107,34 +91,13 @@ fn copied_in(prefix: &[u16], ranks: &[u16], literal: u16, place: usize, n: u16) 
     literal
 }
 
-// Whether no literal of the clause is of variable v.
-fn lacks(clause: &[u16], v: u16) -> bool
-    ensures { result ≡ not (mentions clause.now v) }
-{
-    let mut i = 0;
-    while i < clause.len() {
-        if clause[i] / 2 == v {
-            return false;
-        }
-        i += 1;
-    }
-    true
-}
-
 // Whether clause i is left as it was where variable v is dropped: it has no literal of v, and the turn is not about this clause alone.
 pub fn is_left(turn: Turn, v: u16, i: usize, clause: &[u16]) -> bool
     ensures { result ≡ left turn v i clause.now }
 {
     match turn {
-        Turn::Same => lacks(clause, v),
-        Turn::Drop(_) => lacks(clause, v),
-        Turn::DropAt(b, _) => {
-            if i == b {
-                return false;
-            }
-            lacks(clause, v)
-        }
-        Turn::Replace(_, _) => lacks(clause, v),
+        Turn::Same | Turn::Drop(_) | Turn::Replace(_, _) => !has_variable(clause, v as usize),
+        Turn::DropAt(b, _) => i != b && !has_variable(clause, v as usize),
         Turn::Copy(_, _, _) => false,
     }
 }
@@ -143,17 +106,11 @@ pub fn is_left(turn: Turn, v: u16, i: usize, clause: &[u16]) -> bool
 pub fn leaves_none(turn: Turn) -> bool
     ensures { result ≡ leaves_none turn }
 {
-    match turn {
-        Turn::Same => false,
-        Turn::Drop(_) => false,
-        Turn::DropAt(_, _) => false,
-        Turn::Replace(_, _) => false,
-        Turn::Copy(_, _, _) => true,
-    }
+    matches!(turn, Turn::Copy(_, _, _))
 }
 
 // What becomes of a literal of clause i: 0 where it leaves.
-pub fn literal_turned(turn: Turn, prefix: &[u16], ranks: &[u16], i: usize, literal: u16) -> u16
+pub fn literal_turned(turn: Turn, prefix: &[u16], ranks: &Ranks, i: usize, literal: u16) -> u16
     requires { Ready prefix.now ranks.now }
     ensures { result ≡ turned turn prefix.now i literal }
 {
@@ -177,7 +134,7 @@ pub fn literal_turned(turn: Turn, prefix: &[u16], ranks: &[u16], i: usize, liter
 }
 
 // One literal more, where it is one.
-fn put_some(scratch: &mut [u16], p: Pending, literal: u16) -> Pending
+fn put_some(scratch: &mut Scratch, p: Pending, literal: u16) -> Pending
     requires { Pended scratch.old p }
     ensures { (raw : List ℕ) → Pends raw scratch.old p → Pends (raw ++ some_of literal) scratch.new result }
 {
@@ -192,24 +149,22 @@ fn put_some(scratch: &mut [u16], p: Pending, literal: u16) -> Pending
 
 // What becomes of clause i, behind the literals that wait in the scratch.
 pub fn feed(
-    scratch: &mut [u16],
+    scratch: &mut Scratch,
     p: Pending,
     clause: &[u16],
     i: usize,
     turn: Turn,
     prefix: &[u16],
-    ranks: &[u16],
+    ranks: &Ranks,
 ) -> Pending
     requires pended { Pended scratch.old p }
     requires ready { Ready prefix.now ranks.now }
     ensures { (raw : List ℕ) → Pends raw scratch.old p → Pends (raw ++ fed turn prefix.now i clause.now) scratch.new result }
 {
     let mut w = p;
-    let mut j = 0;
-    while j < clause.len() {
-        let k = literal_turned(turn, prefix, ranks, i, clause[j]);
+    for literal in clause {
+        let k = literal_turned(turn, prefix, ranks, i, *literal);
         w = put_some(scratch, w, k);
-        j += 1;
     }
     w
 }

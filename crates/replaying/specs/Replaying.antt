@@ -1,21 +1,18 @@
 -- What a replay gives and leaves (document 01, "Numbers given back"): the answer, the record, the number of entries applied and
 -- both tables after it, for any two tables, any record and any log.
 -- Assumes nothing.
-use Rattle.std.specs.Prelude.{◌≡◌, Bool, List, ℕ}
-use Rattle.judging.specs.declared.Asked.TheVariants as said
-use Rattle.course.specs.declared.Stop.TheVariants as came
+use Rattle.std.specs.Prelude.{◌≡◌, Bool, List, ℕ, Option, Some, None, Ok, Err}
+use Rattle.apply.specs.declared.Refusal.{Refusal}
 use Rattle.replaying.specs.declared.stepping.StepAnswer.TheVariants as says
 use Rattle.rules.specs.Run as rules
 use Rattle.rules.specs.Run.{all_applied, refused_by, replay_bytes}
 use Rattle.table.specs.Table.{counts_of}
-use Rattle.judging.specs.Check.{asked}
+use Rattle.judging.specs.Check.{Asked, asked}
 use Rattle.table.specs.declared.Counts.{Counts}
-use Rattle.judging.specs.declared.Asked.{Asked}
 use Rattle.course.specs.Course.{side_from}
-use Rattle.course.specs.declared.Stop.{Stop}
 use Rattle.course.specs.declared.Replaying.{Replaying}
 use Rattle.standing.specs.Standing.{formula_in, first_left, second_left}
-use Rattle.replaying.specs.Stepping.{refusal_answer}
+use Rattle.replaying.specs.Stepping.{refusal_answer, refused_back, unfit_answer}
 use Rattle.replaying.specs.declared.stepping.StepAnswer.{StepAnswer}
 use Rattle.replaying.specs.declared.replays.Replayed.{Replayed}
 
@@ -27,10 +24,9 @@ stop_answer (refused_by y) = refusal_answer y
 -- One call, by what is said of the tables and by the replay x: ".. and the number applied"; with 1 and 2 "the record comes back as
 -- lent, with 0 steps"
 unfoldable pub replayed_for : Asked → Counts → rules.Replayed → Replayed
-replayed_for said.Given c x =
+replayed_for (Ok u) c x =
     record { answer = stop_answer x.stop; counts = counts_of x.formula (side_from c.second x.applied); applied = x.applied }
-replayed_for said.WrongLength c x = record { answer = says.Length; counts = c; applied = 0 }
-replayed_for said.Malformed c x = record { answer = says.Malformed; counts = c; applied = 0 }
+replayed_for (Err u) c x = record { answer = unfit_answer u; counts = c; applied = 0 }
 
 -- The call -----------------------------------------------------------------------------------------------------
 unfoldable pub replay_in : List ℕ → List ℕ → Counts → List ℕ → rules.Replayed
@@ -47,11 +43,9 @@ pub record Replays (a b : List ℕ) (c : Counts) (log : List ℕ) (r : Replayed)
   pub second : b' ≡ second_left (asked a b c) b (side_replayed c (replay_in a b c log)) (replay_in a b c log).formula
 
 -- What the replay between the tables comes to, given back -------------------------------------------------------
-unfoldable pub stop_back : Stop → StepAnswer
-stop_back came.Applied = says.Done
-stop_back came.BadEntry = says.BadEntry
-stop_back came.NotPermitted = says.NotPermitted
-stop_back came.NoRoom = says.NoRoom
+unfoldable pub stop_back : Option Refusal → StepAnswer
+stop_back None = says.Done
+stop_back (Some x) = refused_back x
 
 unfoldable pub replayed_back : Replaying → Replayed
 replayed_back r = record { answer = stop_back r.stop; counts = r.counts; applied = r.applied }

@@ -1,19 +1,19 @@
 -- What a step gives and leaves (document 01, "Steps", "Numbers given back"): the answer, the record and both tables after it, for
 -- any two tables, any record and any entry.
 -- Assumes nothing.
-use Rattle.std.specs.Prelude.{◌≡◌, Bool, not, List, ℕ}
+use Rattle.std.specs.Prelude.{◌≡◌, Bool, not, List, ℕ, Result, Ok, Err}
 use Rattle.rules.specs.Step as rules
-use Rattle.judging.specs.declared.Asked.TheVariants as said
-use Rattle.apply.specs.declared.Stepping.TheVariants as came
+use Rattle.judging.specs.declared.Unfit.TheVariants as said
+use Rattle.judging.specs.declared.Unfit.{Unfit}
+use Rattle.apply.specs.declared.Refusal as told
+use Rattle.apply.specs.declared.Refusal.TheVariants as came
 use Rattle.replaying.specs.declared.stepping.StepAnswer.TheVariants as says
 use Rattle.meaning.specs.Formula.{Formula}
 use Rattle.rules.specs.Step.{Refusal, entry_bad, not_permitted, no_room, refused, stepped, step_of}
 use Rattle.table.specs.Table.{counts_of}
-use Rattle.judging.specs.Check.{asked}
+use Rattle.judging.specs.Check.{Asked, asked}
 use Rattle.table.specs.declared.Counts.{Counts}
-use Rattle.judging.specs.declared.Asked.{Asked}
 use Rattle.apply.specs.Applied.{formula_after, side_after}
-use Rattle.apply.specs.declared.Stepping.{Stepping}
 use Rattle.standing.specs.Standing.{formula_in, first_left, second_left}
 use Rattle.replaying.specs.declared.stepping.StepAnswer.{StepAnswer}
 use Rattle.replaying.specs.declared.stepping.Stepped.{Stepped}
@@ -38,10 +38,14 @@ step_answer (refused y) = refusal_answer y
 step_answer (stepped ψ) = says.Done
 
 -- "Order: 1, 2, .. 12, 10, 11"
+-- the answer to a call that is refused for the tables
+abbrev pub unfit_answer : Unfit → StepAnswer
+unfit_answer said.WrongLength = says.Length
+unfit_answer said.Malformed = says.Malformed
+
 unfoldable pub answer_for : Asked → rules.StepAnswer → StepAnswer
-answer_for said.Given x = step_answer x
-answer_for said.WrongLength x = says.Length
-answer_for said.Malformed x = says.Malformed
+answer_for (Ok u) x = step_answer x
+answer_for (Err u) x = unfit_answer u
 
 -- a refusal gives the record as it was lent, a step that of its result, which "stands in the other table"
 unfoldable pub step_counts : Counts → rules.StepAnswer → Counts
@@ -49,9 +53,8 @@ step_counts c (refused y) = c
 step_counts c (stepped ψ) = counts_of ψ (not c.second)
 
 unfoldable pub counts_for : Asked → Counts → rules.StepAnswer → Counts
-counts_for said.Given c x = step_counts c x
-counts_for said.WrongLength c x = c
-counts_for said.Malformed c x = c
+counts_for (Ok u) c x = step_counts c x
+counts_for (Err u) c x = c
 
 -- The call -----------------------------------------------------------------------------------------------------
 -- the step that the entry calls, on the formula in the table that the record names
@@ -90,8 +93,11 @@ pub record Steps (a b : List ℕ) (c : Counts) (entry : ℕ) (r : Stepped) (a' b
   pub second : b' ≡ second_after a b c entry
 
 -- What the step between the tables comes to, given back ---------------------------------------------------------
-unfoldable pub given_back : Stepping → Counts → Stepped
-given_back (came.Stepped d) c = record { answer = says.Done; counts = d }
-given_back came.BadEntry c = record { answer = says.BadEntry; counts = c }
-given_back came.NotPermitted c = record { answer = says.NotPermitted; counts = c }
-given_back came.NoRoom c = record { answer = says.NoRoom; counts = c }
+unfoldable pub refused_back : told.Refusal → StepAnswer
+refused_back came.BadEntry = says.BadEntry
+refused_back came.NotPermitted = says.NotPermitted
+refused_back came.NoRoom = says.NoRoom
+
+unfoldable pub given_back : Result Counts told.Refusal → Counts → Stepped
+given_back (Ok d) c = record { answer = says.Done; counts = d }
+given_back (Err x) c = record { answer = refused_back x; counts = c }

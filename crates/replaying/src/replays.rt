@@ -1,10 +1,10 @@
 // The replay of a log over two lent tables.
 ghost use Rattle.std.specs.Prelude.{◌≡◌};
-ghost use Rattle.replaying.specs.Replaying.{stop_back, replayed_back, Replays};
+ghost use Rattle.replaying.specs.Replaying.{replayed_back, Replays};
 
 use crate::stepping::StepAnswer;
-use course::{Replaying, Stop};
-use judging::{Asked, literals_answer};
+use course::Replaying;
+use judging::literals_answer;
 use table::Counts;
 
 // The answer (Done where all entries are applied, else the first refusal), the record of what the tables hold after it, and the
@@ -16,28 +16,16 @@ pub struct Replayed {
     pub applied: usize,
 }
 
-// The answer for a stop.
-fn answer_for(stop: Stop) -> StepAnswer
-    ensures { result ≡ stop_back stop }
-{
-    match stop {
-        Stop::Applied => StepAnswer::Done,
-        Stop::BadEntry => StepAnswer::BadEntry,
-        Stop::NotPermitted => StepAnswer::NotPermitted,
-        Stop::NoRoom => StepAnswer::NoRoom,
-    }
-}
-
 // What is given back of a replay.
 fn give_replay(r: Replaying) -> Replayed
     ensures { result ≡ replayed_back r }
 {
-    let stop = r.stop;
-    let answer = answer_for(stop);
-    let counts = r.counts;
     Replayed {
-        answer: answer,
-        counts: counts,
+        answer: match r.stop {
+            None => StepAnswer::Done,
+            Some(refusal) => StepAnswer::from(refusal),
+        },
+        counts: r.counts,
         applied: r.applied,
     }
 }
@@ -48,23 +36,14 @@ pub fn replay(first: &mut [u16], second: &mut [u16], c: Counts, log: &[u8]) -> R
     ensures { Replays first.old second.old c log.now result first.new second.new }
 {
     match literals_answer(first, second, c) {
-        Asked::Given => {
+        Ok(()) => {
             let r = course::replay(first, second, c, log);
-            return give_replay(r);
+            give_replay(r)
         }
-        Asked::WrongLength => {
-            return Replayed {
-                answer: StepAnswer::Length,
-                counts: c,
-                applied: 0,
-            };
-        }
-        Asked::Malformed => {
-            return Replayed {
-                answer: StepAnswer::Malformed,
-                counts: c,
-                applied: 0,
-            };
-        }
+        Err(unfit) => Replayed {
+            answer: unfit.into(),
+            counts: c,
+            applied: 0,
+        },
     }
 }

@@ -2,11 +2,12 @@
 ghost use Rattle.std.specs.Prelude.{◌≡◌};
 ghost use Rattle.replaying.specs.Stepping.{step_number, given_back, Steps};
 
-use apply::Stepping;
-use judging::{Asked, literals_answer};
+use apply::Refusal;
+use judging::{Unfit, literals_answer};
 use table::Counts;
 
 // What comes of a step, or of a replay. No refusal: Done.
+// Kept: no Result, since a record comes back with every answer, and the definitions Steps and Replays speak of both.
 #[derive(Clone, Copy)]
 pub enum StepAnswer {
     Done,
@@ -40,27 +41,48 @@ pub struct Stepped {
     pub counts: Counts,
 }
 
+impl From<Refusal> for StepAnswer {
+    ghost use Rattle.std.specs.Prelude.{◌≡◌};
+    ghost use Rattle.replaying.specs.Stepping.{refused_back};
+
+    ghost from_gives = { λ refusal answer. answer ≡ refused_back refusal };
+
+    fn from(refusal: Refusal) -> StepAnswer {
+        match refusal {
+            Refusal::BadEntry => StepAnswer::BadEntry,
+            Refusal::NotPermitted => StepAnswer::NotPermitted,
+            Refusal::NoRoom => StepAnswer::NoRoom,
+        }
+    }
+}
+
 // What is given back of a step from tables that nothing is said against: the record of the result, or the record as lent.
-fn give_back(r: Stepping, c: Counts) -> Stepped
+fn give_back(r: Result<Counts, Refusal>, c: Counts) -> Stepped
     ensures { result ≡ given_back r c }
 {
     match r {
-        Stepping::Stepped(d) => Stepped {
+        Ok(d) => Stepped {
             answer: StepAnswer::Done,
             counts: d,
         },
-        Stepping::BadEntry => Stepped {
-            answer: StepAnswer::BadEntry,
+        Err(refusal) => Stepped {
+            answer: StepAnswer::from(refusal),
             counts: c,
         },
-        Stepping::NotPermitted => Stepped {
-            answer: StepAnswer::NotPermitted,
-            counts: c,
-        },
-        Stepping::NoRoom => Stepped {
-            answer: StepAnswer::NoRoom,
-            counts: c,
-        },
+    }
+}
+
+impl From<Unfit> for StepAnswer {
+    ghost use Rattle.std.specs.Prelude.{◌≡◌};
+    ghost use Rattle.replaying.specs.Stepping.{unfit_answer};
+
+    ghost from_gives = { λ unfit answer. answer ≡ unfit_answer unfit };
+
+    fn from(unfit: Unfit) -> StepAnswer {
+        match unfit {
+            Unfit::WrongLength => StepAnswer::Length,
+            Unfit::Malformed => StepAnswer::Malformed,
+        }
     }
 }
 
@@ -69,21 +91,13 @@ pub fn step(first: &mut [u16], second: &mut [u16], c: Counts, entry: u32) -> Ste
     ensures { Steps first.old second.old c entry result first.new second.new }
 {
     match literals_answer(first, second, c) {
-        Asked::Given => {
+        Ok(()) => {
             let r = apply::step(first, second, c, entry, false);
-            return give_back(r, c);
+            give_back(r, c)
         }
-        Asked::WrongLength => {
-            return Stepped {
-                answer: StepAnswer::Length,
-                counts: c,
-            };
-        }
-        Asked::Malformed => {
-            return Stepped {
-                answer: StepAnswer::Malformed,
-                counts: c,
-            };
-        }
+        Err(unfit) => Stepped {
+            answer: unfit.into(),
+            counts: c,
+        },
     }
 }

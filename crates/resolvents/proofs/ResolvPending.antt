@@ -5,29 +5,29 @@ use mathlib.Core.Path.{◌≡◌, refl, sym, ◌∙◌}
 use mathlib.Core.Bool.{Bool, true, false, ◌||◌, not, cond}
 use mathlib.Core.List.{List, ◌++◌}
 use lib.ListN.{take}
+use Rattle.std.specs.Prelude.{Option, Some, None}
 use lib.Dec.{eqb}
 use Rattle.meaning.specs.Lists.{all_of, has, same, without}
 use Rattle.meaning.specs.Formula.{plain, negated}
 use Rattle.meaning.specs.Tidy.{Tidied, ascending, both_phases, stays, reduce, dropped, kept, tidy_sorted, tidy}
 use Rattle.table.specs.Pending.{Pends, tidied_in}
-use Rattle.table.specs.declared.Pending.{Pending}
 use Rattle.merging.specs.Merging.{joined}
 use Rattle.resolvents.specs.Resolvent.{resolvent, becomes, covers}
 use Rattle.meaning.proofs.Basics.{false_of, clash, or-il, or-ir, or_elim}
 use Rattle.meaning.proofs.Lists.{any_append, any-ascending, any-keep-le, same-path, all-of-has}
 
 -- Compared with a clause -----------------------------------------------------------------------------------------------
-module _ (s : List ℕ) (p : Pending) (x : Tidied) (is : tidied_in s p ≡ x) (c : List ℕ) where
-  pub becomes-none : p.both ≡ true → false ≡ becomes c x
+module _ (s : List ℕ) (p : Option ℕ) (x : Tidied) (is : tidied_in s p ≡ x) (c : List ℕ) where
+  pub becomes-none : p ≡ None → false ≡ becomes c x
   unfolding tidied_in becomes
   becomes-none e = rw (← is, e)
 
-  pub becomes-same : p.both ≡ false → (r : Bool) → r ≡ same c (take p.size s) → r ≡ becomes c x
+  pub becomes-same : (m : ℕ) → p ≡ Some m → (r : Bool) → r ≡ same c (take m s) → r ≡ becomes c x
   unfolding tidied_in becomes
-  becomes-same e r q = rw (← is, e) q
+  becomes-same m e r q = rw (← is, e) q
 
 -- the two literals of a variable are left out
-pub pair-pends : (x y s : List ℕ) (p : Pending) (a l : ℕ) → l ≡ 2 * a → Pends (joined l (l + 1) x y) s p → Pends (resolvent a x y) s p
+pub pair-pends : (x y s : List ℕ) (p : Option ℕ) (a l : ℕ) → l ≡ 2 * a → Pends (joined l (l + 1) x y) s p → Pends (resolvent a x y) s p
 unfolding resolvent joined plain negated
 pair-pends x y s p a l e h = rw e at h
 

@@ -16,8 +16,7 @@ use Rattle.rules.specs.Eliminate.{with_lit, resolvents_of, resolvents}
 use Rattle.table.specs.Table.{decode, with_raw, Holds}
 use Rattle.table.specs.Answer.{Became, Built}
 use Rattle.table.specs.declared.Counts.{Counts}
-use Rattle.table.specs.declared.Pushed.{Pushed}
-use Rattle.table.specs.declared.Pushed.TheVariants.{Done, Full}
+use Rattle.std.specs.Prelude.{Option, Some, None}
 use Rattle.rebuilds.specs.Raws.{with_raws, Going}
 use Rattle.resolving.specs.Pairs.{each_of, of_pair, of_clause, Phases, Silent, Within}
 use Rattle.merging.specs.Merging.{joined, Ordered}
@@ -27,36 +26,36 @@ use Rattle.table.proofs.DecodeLaws.{decode-holds, holds-decoded}
 use Rattle.rebuilds.proofs.BuildLaws.{built_of, built-there, going_start, going_next, going-full, going_end}
 
 -- One pair --------------------------------------------------------------------------------------------------------
-pub pair_made : {l m : ℕ} → Phases l m → (x y : List ℕ) → has m y ≡ true → {ψ : Formula} {s : Bool} {r : Pushed} {t : List ℕ} → Became ψ (with_raw ψ (joined l (l + 1) x y)) s r t → Built (with_raws ψ (of_pair l m x y)) s r t
+pub pair_made : {l m : ℕ} → Phases l m → (x y : List ℕ) → has m y ≡ true → {ψ : Formula} {s : Bool} {r : Option Counts} {t : List ℕ} → Became ψ (with_raw ψ (joined l (l + 1) x y)) s r t → Built (with_raws ψ (of_pair l m x y)) s r t
 unfolding of_pair with_raws build_on with_raw
 pair_made {l} {m} p x y n k = rw (n, p.next) (built_of k)
 
 -- One clause ------------------------------------------------------------------------------------------------------
 module _ (l m : ℕ) (cs : List (List ℕ)) (x : List ℕ) (b : Bool) (is : b ≡ has l x) where
-  pub clause-left : {ψ : Formula} {t : List ℕ} {d : Counts} → Holds ψ t d → b ≡ false → Built (with_raws ψ (of_clause l m cs x)) d.second (Done d) t
+  pub clause-left : {ψ : Formula} {t : List ℕ} {d : Counts} → Holds ψ t d → b ≡ false → Built (with_raws ψ (of_clause l m cs x)) d.second (Some d) t
   unfolding of_clause with_raws build_on
   clause-left {ψ} {t} {d} h n = rw (← is, n) (built-there h)
 
-  pub clause-taken : (ψ : Formula) (s : Bool) (r : Pushed) (t : List ℕ) → b ≡ true → Built (with_raws ψ (each_of (of_pair l m x) cs)) s r t → Built (with_raws ψ (of_clause l m cs x)) s r t
+  pub clause-taken : (ψ : Formula) (s : Bool) (r : Option Counts) (t : List ℕ) → b ≡ true → Built (with_raws ψ (each_of (of_pair l m x) cs)) s r t → Built (with_raws ψ (of_clause l m cs x)) s r t
   unfolding of_clause
   clause-taken ψ s r t n k = rw (← is, n) k
 
 -- All clauses -----------------------------------------------------------------------------------------------------
 module _ (f : List ℕ → List (List ℕ)) (ψ : Formula) (cs : List (List ℕ)) (b : Bool) (t : List ℕ) (e : Counts) (i : ℕ)
     (g : Going ψ (each_of f cs) (each_of f (drop i cs)) b t e) where
-  pub each-end : length cs ≤ i → Built (with_raws ψ (each_of f cs)) b (Done e) t
+  pub each-end : length cs ≤ i → Built (with_raws ψ (each_of f cs)) b (Some e) t
   unfolding each_of
   each-end h = going_end ψ (each_of f cs) (each_of f (drop i cs)) b t e g (rw (drop_of_length-le cs {i = i} h))
 
-  module _ (h : i < length cs) (some : List (List ℕ)) (is : some ≡ f (get_or cs i [])) (r : Pushed) (t' : List ℕ) (k : Built (with_raws g.formula some) e.second r t') where
+  module _ (h : i < length cs) (some : List (List ℕ)) (is : some ≡ f (get_or cs i [])) (r : Option Counts) (t' : List ℕ) (k : Built (with_raws g.formula some) e.second r t') where
     split : each_of f (drop i cs) ≡ some ++ each_of f (drop (i + 1) cs)
     unfolding each_of
     split = rw (add-one, drop-cons cs i [] h, is)
 
-    pub each_next : (e' : Counts) → r ≡ Done e' → Going ψ (each_of f cs) (each_of f (drop (i + 1) cs)) b t' e'
+    pub each_next : (e' : Counts) → r ≡ Some e' → Going ψ (each_of f cs) (each_of f (drop (i + 1) cs)) b t' e'
     each_next = going_next ψ (each_of f cs) (each_of f (drop i cs)) b t e g some (each_of f (drop (i + 1) cs)) split r t' k
 
-    pub each-full : r ≡ Full → Built (with_raws ψ (each_of f cs)) b Full t'
+    pub each-full : r ≡ None → Built (with_raws ψ (each_of f cs)) b None t'
     each-full = going-full ψ (each_of f cs) (each_of f (drop i cs)) b t e g some (each_of f (drop (i + 1) cs)) split r t' k
 
 -- Clauses without m -----------------------------------------------------------------------------------------------
@@ -108,7 +107,7 @@ module _ {φ : Formula} {source : List ℕ} {c : Counts} (h : Holds φ source c)
         let e : each_of f φ.clauses ≡ each_of f (drop from φ.clauses) = rw (decode-holds φ source c h) at (w.skips f s) in
         subst (λ (rest : List (List ℕ)). Going ψ (each_of f φ.clauses) rest d.second t d) e (going_start ψ (each_of f φ.clauses) t d k)
 
-    pub each-stop : (ψ : Formula) (b : Bool) (t : List ℕ) (e : Counts) (i : ℕ) → Going ψ (each_of f φ.clauses) (each_of f (drop i φ.clauses)) b t e → i ≡ to → Built (with_raws ψ (each_of f φ.clauses)) b (Done e) t
+    pub each-stop : (ψ : Formula) (b : Bool) (t : List ℕ) (e : Counts) (i : ℕ) → Going ψ (each_of f φ.clauses) (each_of f (drop i φ.clauses)) b t e → i ≡ to → Built (with_raws ψ (each_of f φ.clauses)) b (Some e) t
     each-stop ψ b t e i g q =
         let z : each_of f (drop to φ.clauses) ≡ [] = rw (decode-holds φ source c h) at (w.ends f s) in
         going_end ψ (each_of f φ.clauses) (each_of f (drop i φ.clauses)) b t e g (ap (λ (x : ℕ). each_of f (drop x φ.clauses)) q ∙ z)

@@ -15,8 +15,7 @@ use Rattle.table.specs.Table.{decode}
 use Rattle.table.specs.Answer.{Built}
 use Rattle.table.specs.Pending.{in_range}
 use Rattle.table.specs.declared.Counts.{Counts}
-use Rattle.table.specs.declared.Pushed.{Pushed}
-use Rattle.table.specs.declared.Pushed.TheVariants.{Done, Full}
+use Rattle.std.specs.Prelude.{Option, Some, None}
 use Rattle.rebuilds.specs.Raws.{with_raws}
 use Rattle.recipes.specs.Recipe.{taken, raws_by, remade}
 use Rattle.resolving.specs.Pairs.{each_of, of_clause, Phases}
@@ -65,12 +64,12 @@ module _ {φ : Formula} {source : List ℕ} {c : Counts} {ranks : List ℕ} (g :
   unfolding permitted
   resolve-never {A} p h = clash p (sym (resolve-large φ a (entries-of φ g.well g.holds.fitting) h))
 
-  module _ (s : Bool) (r : Pushed) (t : List ℕ) (k : Built (tidied (remade (Free (2 * a)) Same a φ)) s r t) where
-    pub resolve-full : r ≡ Full → (t' : List ℕ) → Built (result_of φ resolve a 0) s Full t'
+  module _ (s : Bool) (r : Option Counts) (t : List ℕ) (k : Built (tidied (remade (Free (2 * a)) Same a φ)) s r t) where
+    pub resolve-full : r ≡ None → (t' : List ℕ) → Built (result_of φ resolve a 0) s None t'
     resolve-full e t' =
         built-not (result_of φ resolve a 0) s t'
         (ap fits (sym whole) ∙ raws-not (tidied (remade (Free (2 * a)) Same a φ)) (each_of (of_clause (2 * a) (2 * a + 1) φ.clauses) φ.clauses) (built-full (tidied (remade (Free (2 * a)) Same a φ)) s r t k e))
 
-    pub resolve-done : (d : Counts) → r ≡ Done d → (r' : Pushed) (t' : List ℕ)
+    pub resolve-done : (d : Counts) → r ≡ Some d → (r' : Option Counts) (t' : List ℕ)
         → Built (with_raws (tidied (remade (Free (2 * a)) Same a φ)) (each_of (of_clause (2 * a) (2 * a + 1) φ.clauses) φ.clauses)) d.second r' t' → Built (result_of φ resolve a 0) s r' t'
     resolve-done d e r' t' m = rw (whole, built-second (tidied (remade (Free (2 * a)) Same a φ)) s r t k d e) at m

@@ -14,14 +14,12 @@ pub fn first_with(source: &[u16], c: Counts, literal: u16) -> usize
     ensures upper_bound { result ≤ c.clauses }
     ensures f_value { (φ : Formula) (f : List ℕ → List (List ℕ)) → Holds φ source.now c → Silent literal f → each_of f φ.clauses ≡ each_of f (drop result φ.clauses) }
 {
-    let mut i = 0;
-    while i < c.clauses {
+    for i in 0..c.clauses {
         if contains(clause_at(source, c, i), literal) {
             return i;
         }
-        i += 1;
     }
-    i
+    c.clauses
 }
 
 // One behind the last clause, from this one on, that has the literal.
@@ -31,15 +29,12 @@ pub fn end_with(source: &[u16], c: Counts, literal: u16, from: usize) -> usize
     ensures lower_bound { (from ≤ result) × (result ≤ c.clauses) }
     ensures result_value { (φ : Formula) (f : List ℕ → List (List ℕ)) → Holds φ source.now c → Silent literal f → each_of f (drop result φ.clauses) ≡ [] }
 {
-    let mut i = c.clauses;
-    while from < i {
-        let k = i - 1;
-        if contains(clause_at(source, c, k), literal) {
-            return i;
+    for i in (from..c.clauses).rev() {
+        if contains(clause_at(source, c, i), literal) {
+            return i + 1;
         }
-        i = k;
     }
-    i
+    from
 }
 
 // The opposites of a clause's literals, as bits: each by its last six bits. What is found by them is looked up in the clause, so they only
@@ -48,10 +43,8 @@ pub fn opposite_bits(clause: &[u16]) -> u64
     ensures { result ≡ opposite_bits clause.now }
 {
     let mut bits: u64 = 0;
-    let mut i = 0;
-    while i < clause.len() {
-        bits = bits | 1 << (flip(clause[i]) % 64);
-        i += 1;
+    for literal in clause {
+        bits |= 1 << (flip(*literal) % 64);
     }
     bits
 }
@@ -63,10 +56,7 @@ fn meets(x: &[u16], bits: u64, negative: u16, literal: u16) -> bool
     if literal == negative {
         return false;
     }
-    if (bits >> (literal % 64)) % 2 == 0 {
-        return false;
-    }
-    contains(x, flip(literal))
+    (bits >> (literal % 64)) % 2 == 1 && contains(x, flip(literal))
 }
 
 // Whether x and y may have a resolvent: y has the negative literal, and of no other literal of y the opposite is in x.
@@ -75,14 +65,11 @@ fn resolves(x: &[u16], bits: u64, negative: u16, y: &[u16]) -> bool
     ensures idle { result ≡ false → Idle (of_pair (opposite negative) negative x.now y.now) }
 {
     let mut found = false;
-    let mut i = 0;
-    while i < y.len() {
-        let literal = y[i];
-        if meets(x, bits, negative, literal) {
+    for literal in y {
+        if meets(x, bits, negative, *literal) {
             return false;
         }
-        found = found | (literal == negative);
-        i += 1;
+        found |= *literal == negative;
     }
     found
 }
@@ -103,12 +90,10 @@ pub fn next_pair(
     ensures result_value { (φ : Formula) → Holds φ source.now c → result < to → has negative (get_or φ.clauses result []) ≡ true }
     ensures alike { (φ : Formula) → Holds φ source.now c → Alike (each_of (of_pair (opposite negative) negative x.now) (drop from φ.clauses)) (each_of (of_pair (opposite negative) negative x.now) (drop result φ.clauses)) }
 {
-    let mut i = from;
-    while i < to {
+    for i in from..to {
         if resolves(x, bits, negative, clause_at(source, c, i)) {
             return i;
         }
-        i += 1;
     }
-    i
+    to
 }

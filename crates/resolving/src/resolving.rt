@@ -17,7 +17,7 @@ use hints::close_hinted;
 use merging::merge_in;
 use rebuilds::rebuild;
 use recipes::{Turn, Which};
-use table::{Counts, Pushed, clause_at, contains};
+use table::{Counts, Ranks, Scratch, clause_at, contains};
 
 // The resolvent of x, which has the positive literal, and y, which has the negative one.
 fn add_pair(
@@ -26,12 +26,12 @@ fn add_pair(
     x: &[u16],
     y: &[u16],
     positive: u16,
-    scratch: &mut [u16],
-    ranks: &[u16],
-) -> Pushed
+    scratch: &mut Scratch,
+    ranks: &Ranks,
+) -> Option<Counts>
     requires held { Held target.old d }
     requires ready { Ready (take d.variables target.old) ranks.now }
-    requires scratch_len { (length scratch.old ≡ 1023) × (positive < 2047) }
+    requires bound { positive < 2047 }
     requires ordered { Ordered x.now × Ordered y.now }
     ensures { (ψ : Formula) → Holds ψ target.old d → Became ψ (with_raw ψ (joined positive (positive + 1) x.now y.now)) d.second result target.new }
 {
@@ -50,13 +50,12 @@ fn add_pairs(
     negative: u16,
     from: usize,
     to: usize,
-    scratch: &mut [u16],
-    ranks: &[u16],
-) -> Pushed
+    scratch: &mut Scratch,
+    ranks: &Ranks,
+) -> Option<Counts>
     requires held { Held source.now c }
-    requires held_2 { Held target.old d }
+    requires held_target { Held target.old d }
     requires ready { Ready (take d.variables target.old) ranks.now }
-    requires scratch_len { length scratch.old ≡ 1023 }
     requires within { Within positive negative (decode source.now c) from to }
     requires ordered { Ordered x.now }
     ensures { (φ ψ : Formula) → Holds φ source.now c → Holds ψ target.old d → Built (with_raws ψ (each_of (of_pair positive negative x.now) φ.clauses)) d.second result target.new }
@@ -64,8 +63,9 @@ fn add_pairs(
     let bits = opposite_bits(x);
     let mut e = d;
     let mut i = next_pair(source, c, x, bits, negative, from, to);
+    // Kept: from one clause to the next that may have a resolvent with x, which is not the next one.
     while i < to {
-        match add_pair(
+        e = add_pair(
             target,
             e,
             x,
@@ -73,23 +73,10 @@ fn add_pairs(
             positive,
             scratch,
             ranks,
-        ) {
-            Pushed::Done(next) => {
-                // Field by field: taken over whole, the record would be read before all of it is written, and the loop would wait.
-                e = Counts {
-                    variables: next.variables,
-                    clauses: next.clauses,
-                    literals: next.literals,
-                    second: next.second,
-                };
-            }
-            Pushed::Full => {
-                return Pushed::Full;
-            }
-        }
+        )?;
         i = next_pair(source, c, x, bits, negative, i + 1, to);
     }
-    Pushed::Done(e)
+    Some(e)
 }
 
 // The resolvents of clause x, where it has the positive literal, and all clauses.
@@ -103,13 +90,12 @@ fn add_clause_pairs(
     negative: u16,
     from: usize,
     to: usize,
-    scratch: &mut [u16],
-    ranks: &[u16],
-) -> Pushed
+    scratch: &mut Scratch,
+    ranks: &Ranks,
+) -> Option<Counts>
     requires held { Held source.now c }
-    requires held_2 { Held target.old d }
+    requires held_target { Held target.old d }
     requires ready { Ready (take d.variables target.old) ranks.now }
-    requires scratch_len { length scratch.old ≡ 1023 }
     requires within { Within positive negative (decode source.now c) from to }
     requires ordered { Ordered x.now }
     ensures { (φ ψ : Formula) → Holds φ source.now c → Holds ψ target.old d → Built (with_raws ψ (of_clause positive negative φ.clauses x.now)) d.second result target.new }
@@ -119,7 +105,7 @@ fn add_clause_pairs(
             source, c, target, d, x, positive, negative, from, to, scratch, ranks,
         );
     }
-    Pushed::Done(d)
+    Some(d)
 }
 
 // All resolvents, by positive clause.
@@ -132,47 +118,23 @@ fn add_by_positive(
     negative: u16,
     from: usize,
     to: usize,
-    scratch: &mut [u16],
-    ranks: &[u16],
-) -> Pushed
+    scratch: &mut Scratch,
+    ranks: &Ranks,
+) -> Option<Counts>
     requires held { Held source.now c }
-    requires held_2 { Held target.old d }
+    requires held_target { Held target.old d }
     requires ready { Ready (take d.variables target.old) ranks.now }
-    requires scratch_len { length scratch.old ≡ 1023 }
     requires within { Within positive negative (decode source.now c) from to }
     ensures { (φ ψ : Formula) → Holds φ source.now c → Holds ψ target.old d → Built (with_raws ψ (each_of (of_clause positive negative φ.clauses) φ.clauses)) d.second result target.new }
 {
     let mut e = d;
-    let mut i = 0;
-    while i < c.clauses {
-        match add_clause_pairs(
-            source,
-            c,
-            target,
-            e,
-            clause_at(source, c, i),
-            positive,
-            negative,
-            from,
-            to,
-            scratch,
-            ranks,
-        ) {
-            Pushed::Done(next) => {
-                e = Counts {
-                    variables: next.variables,
-                    clauses: next.clauses,
-                    literals: next.literals,
-                    second: next.second,
-                };
-            }
-            Pushed::Full => {
-                return Pushed::Full;
-            }
-        }
-        i += 1;
+    for i in 0..c.clauses {
+        let x = clause_at(source, c, i);
+        e = add_clause_pairs(
+            source, c, target, e, x, positive, negative, from, to, scratch, ranks,
+        )?;
     }
-    Pushed::Done(e)
+    Some(e)
 }
 
 // All resolvents. Where the clauses with the negative literal begin and end is looked for once.
@@ -183,13 +145,12 @@ fn add_resolvents(
     d: Counts,
     positive: u16,
     negative: u16,
-    scratch: &mut [u16],
-    ranks: &[u16],
-) -> Pushed
+    scratch: &mut Scratch,
+    ranks: &Ranks,
+) -> Option<Counts>
     requires held { Held source.now c }
-    requires held_2 { Held target.old d }
+    requires held_target { Held target.old d }
     requires ready { Ready (take d.variables target.old) ranks.now }
-    requires scratch_len { length scratch.old ≡ 1023 }
     requires c_value { (well_formed (decode source.now c) ≡ true) × Phases positive negative }
     ensures { (φ ψ : Formula) → Holds φ source.now c → Holds ψ target.old d → Built (with_raws ψ (each_of (of_clause positive negative φ.clauses) φ.clauses)) d.second result target.new }
 {
@@ -205,20 +166,20 @@ pub fn resolve_into(
     source: &[u16],
     c: Counts,
     target: &mut [u16],
-    scratch: &mut [u16],
-    ranks: &mut [u16],
+    scratch: &mut Scratch,
+    ranks: &mut Ranks,
     a: usize,
-) -> Pushed
+) -> Option<Counts>
     requires { Begun source.now c target.old scratch.old ranks.old }
     ensures { (φ : Formula) → Given φ source.now c ranks.old → permitted φ resolve a 0 ≡ true → Built (result_of φ resolve a 0) (not c.second) result target.new }
 {
     if Counts::VARIABLES < a {
-        return Pushed::Full;
+        return None;
     }
     let v = a as u16;
     let positive = 2 * v;
     let negative = 2 * v + 1;
-    match rebuild(
+    let d = rebuild(
         source,
         c,
         v,
@@ -227,8 +188,6 @@ pub fn resolve_into(
         Turn::Same,
         scratch,
         ranks,
-    ) {
-        Pushed::Done(d) => add_resolvents(source, c, target, d, positive, negative, scratch, ranks),
-        Pushed::Full => Pushed::Full,
-    }
+    )?;
+    add_resolvents(source, c, target, d, positive, negative, scratch, ranks)
 }

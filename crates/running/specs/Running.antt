@@ -1,19 +1,19 @@
 -- What a run gives and leaves (document 01, "The run", "Numbers given back"): the answer, the record, the number of steps, both
 -- tables and the log after it, for any two tables, any record, any allowance and limit, and any log.
 -- Assumes nothing.
-use Rattle.std.specs.Prelude.{◌≡◌, Bool, true, false, List, ◌++◌, ℕ, ◌*◌, leb, length, drop}
-use Rattle.judging.specs.declared.Asked.TheVariants as said
-use Rattle.course.specs.declared.Outcome.TheVariants as came
+use Rattle.std.specs.Prelude.{◌≡◌, Bool, true, false, List, ◌++◌, ℕ, ◌*◌, leb, length, drop, Option, Some, None, Ok, Err}
+use Rattle.judging.specs.declared.Unfit.TheVariants as said
+use Rattle.judging.specs.declared.Unfit.{Unfit}
+use Rattle.choice.specs.declared.End.TheVariants as end
 use Rattle.running.specs.declared.runs.RunAnswer.TheVariants as says
 use Rattle.rules.specs.Entry.{log_bytes}
 use Rattle.rules.specs.Run as rules
 use Rattle.rules.specs.Run.{true_end, false_end, finished, out_of_room, ended, stopped}
 use Rattle.table.specs.Table.{counts_of}
-use Rattle.judging.specs.Check.{asked}
+use Rattle.judging.specs.Check.{Asked, asked}
 use Rattle.table.specs.declared.Counts.{Counts}
-use Rattle.judging.specs.declared.Asked.{Asked}
 use Rattle.course.specs.Course.{side_from}
-use Rattle.course.specs.declared.Outcome.{Outcome}
+use Rattle.choice.specs.declared.End.{End}
 use Rattle.course.specs.declared.Running.{Running}
 use Rattle.standing.specs.Standing.{formula_in, first_for, second_for}
 use Rattle.running.specs.declared.runs.RunAnswer.{RunAnswer}
@@ -46,10 +46,14 @@ unfoldable pub heard_of : Bool → Heard
 heard_of true = runs
 heard_of false = refuses says.Allowance
 
+-- the answer to a call that is refused for the tables
+abbrev pub unfit_answer : Unfit → RunAnswer
+unfit_answer said.WrongLength = says.Length
+unfit_answer said.Malformed = says.Malformed
+
 unfoldable pub heard_for : Asked → ℕ → Heard
-heard_for said.Given E = heard_of (leb E 1000)
-heard_for said.WrongLength E = refuses says.Length
-heard_for said.Malformed E = refuses says.Malformed
+heard_for (Ok u) E = heard_of (leb E 1000)
+heard_for (Err u) E = refuses (unfit_answer u)
 
 -- What is given and left, by that and by the run x from side s -------------------------------------------------
 -- "With 1, 2, 13 the record comes back as lent, with 0 steps"
@@ -87,12 +91,12 @@ pub record Runs (a b : List ℕ) (c : Counts) (E limit : ℕ) (log : List ℕ) (
   pub written : log' ≡ log_ran (heard_in a b c E) log (run_in a b c E limit log)
 
 -- What the run between the tables comes to, given back ----------------------------------------------------------
-unfoldable pub answer_back : Outcome → RunAnswer
-answer_back came.True = says.True
-answer_back came.False = says.False
-answer_back came.Finished = says.Finished
-answer_back came.OutOfRoom = says.OutOfRoom
-answer_back came.Stopped = says.Stopped
+unfoldable pub answer_back : Option End → RunAnswer
+answer_back (Some end.True) = says.True
+answer_back (Some end.False) = says.False
+answer_back (Some end.Finished) = says.Finished
+answer_back (Some end.OutOfRoom) = says.OutOfRoom
+answer_back None = says.Stopped
 
 unfoldable pub ran_back : Running → Ran
 ran_back r = record { answer = answer_back r.outcome; counts = r.counts; steps = r.steps }

@@ -2,11 +2,13 @@
 ghost use Rattle.std.specs.Prelude.{◌≡◌};
 ghost use Rattle.running.specs.Running.{run_number, answer_back, ran_back, Runs};
 
-use course::{Outcome, Running};
-use judging::{Asked, literals_answer};
+use choice::End;
+use course::Running;
+use judging::{Unfit, literals_answer};
 use table::Counts;
 
 // What comes of a call: how the run ends, or why it is refused.
+// Kept: no Result, since a record comes back with every answer, and the definition Runs speaks of both.
 #[derive(Clone, Copy)]
 pub enum RunAnswer {
     True,
@@ -45,27 +47,41 @@ pub struct Ran {
     pub steps: usize,
 }
 
+impl From<Unfit> for RunAnswer {
+    ghost use Rattle.std.specs.Prelude.{◌≡◌};
+    ghost use Rattle.running.specs.Running.{unfit_answer};
+
+    ghost from_gives = { λ unfit answer. answer ≡ unfit_answer unfit };
+
+    fn from(unfit: Unfit) -> RunAnswer {
+        match unfit {
+            Unfit::WrongLength => RunAnswer::Length,
+            Unfit::Malformed => RunAnswer::Malformed,
+        }
+    }
+}
+
 // A refusal: the record as it was lent, and 0 steps.
 fn refuse(answer: RunAnswer, c: Counts) -> Ran
     ensures { result ≡ record { answer = answer; counts = c; steps = 0 } }
 {
     Ran {
-        answer: answer,
+        answer,
         counts: c,
         steps: 0,
     }
 }
 
-// The answer for an outcome.
-fn answer_for(outcome: Outcome) -> RunAnswer
+// The answer for how a run ends; STOPPED where it does not end by itself.
+fn answer_for(outcome: Option<End>) -> RunAnswer
     ensures { result ≡ answer_back outcome }
 {
     match outcome {
-        Outcome::True => RunAnswer::True,
-        Outcome::False => RunAnswer::False,
-        Outcome::Finished => RunAnswer::Finished,
-        Outcome::OutOfRoom => RunAnswer::OutOfRoom,
-        Outcome::Stopped => RunAnswer::Stopped,
+        Some(End::True) => RunAnswer::True,
+        Some(End::False) => RunAnswer::False,
+        Some(End::Finished) => RunAnswer::Finished,
+        Some(End::OutOfRoom) => RunAnswer::OutOfRoom,
+        None => RunAnswer::Stopped,
     }
 }
 
@@ -73,12 +89,9 @@ fn answer_for(outcome: Outcome) -> RunAnswer
 fn give_run(r: Running) -> Ran
     ensures { result ≡ ran_back r }
 {
-    let outcome = r.outcome;
-    let answer = answer_for(outcome);
-    let counts = r.counts;
     Ran {
-        answer: answer,
-        counts: counts,
+        answer: answer_for(r.outcome),
+        counts: r.counts,
         steps: r.steps,
     }
 }
@@ -95,18 +108,13 @@ pub fn run(
     ensures { Runs first.old second.old c allowance limit log.old result first.new second.new log.new }
 {
     match literals_answer(first, second, c) {
-        Asked::Given => {
+        Ok(()) => {
             if 1000 < allowance {
                 return refuse(RunAnswer::Allowance, c);
             }
             let r = course::run(first, second, c, allowance, limit, log);
-            return give_run(r);
+            give_run(r)
         }
-        Asked::WrongLength => {
-            return refuse(RunAnswer::Length, c);
-        }
-        Asked::Malformed => {
-            return refuse(RunAnswer::Malformed, c);
-        }
+        Err(unfit) => refuse(unfit.into(), c),
     }
 }

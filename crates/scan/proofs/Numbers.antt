@@ -12,33 +12,14 @@ use borrow.Author.Tests.{eq-eqb, ne_eqb, le-leb, lt-leb}
 use lib.Dec.{leb, eqb}
 use lib.ListN.{length, take, drop, get_or, drop_of_length-le, length-drop}
 use lib.Seq.{drop-cons, take_all}
+use Rattle.std.specs.Cmp.Lexicographic.{pointwise}
 use Rattle.meaning.specs.Lists.{all_of, same}
+use Rattle.meaning.proofs.StdLists.{same-std}
 use Rattle.qdimacs.specs.Bytes.{is_digit, value, is_numeral}
 use Rattle.qdimacs.specs.Words.{number_of, letter_of, word_of}
 use Rattle.qdimacs.specs.declared.Word.TheVariants.{Cnf, Plain, Minus, Other}
 use Rattle.scan.specs.Cut.{most, sat, sat_word, digits_in, numeral_in}
-use Rattle.scan.specs.declared.words.Number.TheVariants.{Value, Not}
-
--- Two lists of bytes, compared ------------------------------------------------------------------------------
-pub same_length : (a b : List ℕ) → (length a ≡ length b → ⊥) → same a b ≡ false
-unfolding same
-same_length [] [] h = absurd (h refl)
-same_length [] (y ∷ ys) h = refl
-same_length (x ∷ xs) [] h = refl
-same_length (x ∷ xs) (y ∷ ys) h = rw (same_length xs ys (λ e. h (ap suc e))) (and-false (eqb x y))
-
-module _ (a b : List ℕ) (i : ℕ) (inv : (length a ≡ length b) × (same a b ≡ same (drop i a) (drop i b))) where
-  pub same_over : length a ≤ i → true ≡ same a b
-  unfolding same
-  same_over h = let k : length b ≤ i = omega arith in sym (inv.1 ∙ rw (drop_of_length-le a h, drop_of_length-le b k))
-
-  pub same_turn : i < length a → get_or a i 0 ≡ get_or b i 0 → (length a ≡ length b) × (same a b ≡ same (drop (i + 1) a) (drop (i + 1) b))
-  unfolding same
-  same_turn h e = (inv.0, inv.1 ∙ rw (drop-cons a i 0 h, drop-cons b i 0 (omega arith), eq-eqb (get_or a i 0) (get_or b i 0) e, add-one i))
-
-  pub same_left : i < length a → (get_or a i 0 ≡ get_or b i 0 → ⊥) → false ≡ same a b
-  unfolding same
-  same_left h e = sym (inv.1 ∙ rw (drop-cons a i 0 h, drop-cons b i 0 (omega arith), ne_eqb (get_or a i 0) (get_or b i 0) e))
+use Rattle.std.specs.Prelude.{Some, None}
 
 -- Digits -----------------------------------------------------------------------------------------------------
 pub digit-is : (b : ℕ) → code "0" ≤ b → b ≤ code "9" → is_digit b ≡ true
@@ -66,11 +47,11 @@ pub record Digits (w : List ℕ) (i v : ℕ) : Type 0 where
   pub same-all : all_of is_digit w ≡ all_of is_digit (drop i w)
 
 module _ (w : List ℕ) (i v : ℕ) (inv : Digits w i v) where
-  pub digits-left : i < length w → is_digit (get_or w i 0) ≡ false → Not ≡ digits_in w
+  pub digits-left : i < length w → is_digit (get_or w i 0) ≡ false → None ≡ digits_in w
   unfolding all_of digits_in
   digits-left h e = let z : all_of is_digit w ≡ false = inv.same-all ∙ rw (drop-cons w i 0 h, e) in rw z
 
-  pub digits-over : length w ≤ i → Value v ≡ digits_in w
+  pub digits-over : length w ≤ i → Some v ≡ digits_in w
   unfolding all_of value digits_in
   digits-over h =
       let z : all_of is_digit w ≡ true = inv.same-all ∙ rw (drop_of_length-le w h) in
@@ -88,12 +69,12 @@ module _ (w : List ℕ) (i v : ℕ) (inv : Digits w i v) where
       }
 
 -- Numerals ---------------------------------------------------------------------------------------------------
-pub numeral-empty : (w : List ℕ) → length w ≡ 0 → Not ≡ numeral_in w
+pub numeral-empty : (w : List ℕ) → length w ≡ 0 → None ≡ numeral_in w
 unfolding numeral_in is_numeral
 numeral-empty [] h = refl
 numeral-empty (b ∷ bs) h = absurd (omega arith)
 
-pub numeral-zero : (w : List ℕ) → 1 < length w → get_or w 0 0 ≡ code "0" → Not ≡ numeral_in w
+pub numeral-zero : (w : List ℕ) → 1 < length w → get_or w 0 0 ≡ code "0" → None ≡ numeral_in w
 unfolding numeral_in is_numeral
 numeral-zero [] h e = absurd (omega arith)
 numeral-zero (b ∷ bs) h e =
@@ -108,19 +89,19 @@ numeral-digits (b ∷ bs) n h =
     rw z
 
 -- what an answer of `read_numeral` tells
-value-inv : (t : Bool) (x v : ℕ) → Value v ≡ cond t (Value x) Not → (t ≡ true) × (v ≡ x)
+value-inv : (t : Bool) (x v : ℕ) → Some v ≡ cond t (Some x) None → (t ≡ true) × (v ≡ x)
 value-inv true x v e = (refl, cc)
 value-inv false x v e = absurd (let z : ◌≡◌ {A = ℕ} 0 1 = cc in omega arith)
 
-not-inv : (t : Bool) (x : ℕ) → Not ≡ cond t (Value x) Not → t ≡ false
+not-inv : (t : Bool) (x : ℕ) → None ≡ cond t (Some x) None → t ≡ false
 not-inv true x e = absurd (let z : ◌≡◌ {A = ℕ} 0 1 = cc in omega arith)
 not-inv false x e = refl
 
-numeral-value : (w : List ℕ) (v : ℕ) → Value v ≡ numeral_in w → (is_numeral w ≡ true) × (v ≡ sat (value 0 w))
+numeral-value : (w : List ℕ) (v : ℕ) → Some v ≡ numeral_in w → (is_numeral w ≡ true) × (v ≡ sat (value 0 w))
 unfolding numeral_in
 numeral-value w v e = value-inv (is_numeral w) (sat (value 0 w)) v e
 
-numeral-not : (w : List ℕ) → Not ≡ numeral_in w → is_numeral w ≡ false
+numeral-not : (w : List ℕ) → None ≡ numeral_in w → is_numeral w ≡ false
 unfolding numeral_in
 numeral-not w e = not-inv (is_numeral w) (sat (value 0 w)) e
 
@@ -147,42 +128,48 @@ tail-part w = take_all (length w - 1) (drop 1 w) (omega (arith, length-drop 1 w)
 
 -- after a minus: what is read of the part after it
 module _ (w : List ℕ) (some_byte : length w ≡ 0 → ⊥) (first : get_or w 0 0 ≡ code "-") where
-  pub minus-zero : (v : ℕ) → Value v ≡ numeral_in (take (length w - 1) (drop 1 w)) → v ≡ 0 → Other ≡ sat_word (number_of w)
+  pub minus-zero : (v : ℕ) → Some v ≡ numeral_in (take (length w - 1) (drop 1 w)) → v ≡ 0 → Other ≡ sat_word (number_of w)
   unfolding sat_word
   minus-zero v e z =
       let k = numeral-value (drop 1 w) v (e ∙ ap numeral_in (tail-part w)) in
       rw (minus_is w some_byte first, k.0, eq-eqb (value 0 (drop 1 w)) 0 (omega arith))
 
-  pub minus-value : (v : ℕ) → Value v ≡ numeral_in (take (length w - 1) (drop 1 w)) → (v ≡ 0 → ⊥) → Minus v ≡ sat_word (number_of w)
+  pub minus-value : (v : ℕ) → Some v ≡ numeral_in (take (length w - 1) (drop 1 w)) → (v ≡ 0 → ⊥) → Minus v ≡ sat_word (number_of w)
   unfolding sat_word
   minus-value v e z =
       let k = numeral-value (drop 1 w) v (e ∙ ap numeral_in (tail-part w)) in
       rw (minus_is w some_byte first, k.0, ne_eqb (value 0 (drop 1 w)) 0 (omega arith)) (ap Minus k.1)
 
-  pub minus-not : Not ≡ numeral_in (take (length w - 1) (drop 1 w)) → Other ≡ sat_word (number_of w)
+  pub minus-not : None ≡ numeral_in (take (length w - 1) (drop 1 w)) → Other ≡ sat_word (number_of w)
   unfolding sat_word
   minus-not e = rw (minus_is w some_byte first, numeral-not (drop 1 w) (e ∙ ap numeral_in (tail-part w)))
 
 module _ (w : List ℕ) (some_byte : length w ≡ 0 → ⊥) (first : get_or w 0 0 ≡ code "-" → ⊥) where
-  pub plain_value : (v : ℕ) → Value v ≡ numeral_in w → Plain v ≡ sat_word (number_of w)
+  pub plain_value : (v : ℕ) → Some v ≡ numeral_in w → Plain v ≡ sat_word (number_of w)
   unfolding sat_word
   plain_value v e = let k = numeral-value w v e in rw (plain-is w some_byte first, k.0) (ap Plain k.1)
 
-  pub plain-not : Not ≡ numeral_in w → Other ≡ sat_word (number_of w)
+  pub plain-not : None ≡ numeral_in w → Other ≡ sat_word (number_of w)
   unfolding sat_word
   plain-not e = rw (plain-is w some_byte first, numeral-not w e)
 
 -- Words ------------------------------------------------------------------------------------------------------
-pub word-empty : (w : List ℕ) → length w ≡ 0 → Other ≡ sat_word (word_of w)
-unfolding word_of sat_word
-word-empty [] h = refl
-word-empty (b ∷ bs) h = absurd (omega arith)
-
 pub word-one : (w : List ℕ) → length w ≡ 1 → word_of w ≡ letter_of (get_or w 0 0)
 unfolding word_of
 word-one [] h = absurd (omega arith)
 word-one (b ∷ []) h = refl
 word-one (b ∷ c ∷ bs) h = absurd (omega arith)
+
+-- the comparison with `cnf`, as the library's `==` answers it
+pub cnf-test : (w : List ℕ) {cnf : List ℕ} {r : Bool} → r ≡ pointwise eqb w cnf → cnf ≡ code "c" ∷ code "n" ∷ code "f" ∷ []
+    → same w (code "c" ∷ code "n" ∷ code "f" ∷ []) ≡ r
+cnf-test w e k = same-std w (code "c" ∷ code "n" ∷ code "f" ∷ []) ∙ ap (pointwise eqb w) (sym k) ∙ sym e
+
+pub word-cnf : (w : List ℕ) → same w (code "c" ∷ code "n" ∷ code "f" ∷ []) ≡ true → Cnf ≡ sat_word (word_of w)
+unfolding word_of sat_word same
+word-cnf [] e = absurd (let z : ◌≡◌ {A = Bool} true false = cc in cc)
+word-cnf (b ∷ []) e = absurd (let z : ◌≡◌ {A = Bool} true false = sym e ∙ and-false (eqb b (code "c")) in cc)
+word-cnf (b ∷ c ∷ bs) e = rw e
 
 pub letter-other : (w : List ℕ) → length w ≡ 1 → (get_or w 0 0 ≡ code "p" → ⊥) → (get_or w 0 0 ≡ code "e" → ⊥) → (get_or w 0 0 ≡ code "a" → ⊥)
     → word_of w ≡ number_of w
@@ -191,8 +178,8 @@ letter-other [] h p e a = absurd (omega arith)
 letter-other (b ∷ []) h p e a = rw (ne_eqb b (code "p") p, ne_eqb b (code "e") e, ne_eqb b (code "a") a)
 letter-other (b ∷ c ∷ bs) h p e a = absurd (omega arith)
 
-pub word_more : (w : List ℕ) → (length w ≡ 0 → ⊥) → (length w ≡ 1 → ⊥) → word_of w ≡ cond (same w (code "c" ∷ code "n" ∷ code "f" ∷ [])) Cnf (number_of w)
-unfolding word_of
-word_more [] h k = absurd (h refl)
-word_more (b ∷ []) h k = absurd (k refl)
-word_more (b ∷ c ∷ bs) h k = refl
+pub word-other : (w : List ℕ) → same w (code "c" ∷ code "n" ∷ code "f" ∷ []) ≡ false → (length w ≡ 1 → ⊥) → word_of w ≡ number_of w
+unfolding word_of number_of
+word-other [] e h = refl
+word-other (b ∷ []) e h = absurd (h refl)
+word-other (b ∷ c ∷ bs) e h = rw e

@@ -20,7 +20,7 @@ use Rattle.qdimacs.specs.declared.Phase.TheVariants.{AtP, AtCnf, AtM, AtC, Line,
 use Rattle.scan.specs.Scan.{next_in}
 use Rattle.scan.specs.Cut.{sat_word}
 use Rattle.scan.specs.Phases.{right_phase}
-use Rattle.scan.specs.declared.bytes.Next.TheVariants.{Run, End}
+use Rattle.std.specs.Prelude.{Some, None}
 use Rattle.meaning.specs.WellFormed.{max_text}
 use Rattle.qdimacs.proofs.Right.{Right, RightSoFar, Where, reading-right}
 use Rattle.scan.proofs.Tokens.{found, none_left, preamble-le}
@@ -75,12 +75,12 @@ module _ (s : List ℕ) (at : ℕ) (st : State) (r : Reached s at st) where
   reached-goes = rw (r.whole, tokens_append r.passed (tokens_from false at (drop at s)) (reads start), r.state)
 
   -- no token is left
-  pub reached-end : next_in s at ≡ End → on_tokens (reads start) (tokens s) ≡ reads st
+  pub reached-end : next_in s at ≡ None → on_tokens (reads start) (tokens s) ≡ reads st
   unfolding on_tokens
   reached-end h = reached-goes ∙ ap (on_tokens (reads st)) (none_left s at h)
 
   -- a token from a to e: its word w and its move mv, as the code has them
-  module _ (a e : ℕ) (next : next_in s at ≡ Run a e) (w : Word) (mv : Move)
+  module _ (a e : ℕ) (next : next_in s at ≡ Some (a, e)) (w : Word) (mv : Move)
       (word : w ≡ sat_word (word_of (take (e - a) (drop a s))))
       (moved : mv ≡ decide st.phase st.m st.c (mentions st.prefix (variable_of w)) w) where
     abbrev token : Token

@@ -1,18 +1,19 @@
 -- Laws of blanks, of counts of bytes and of the comments before the first token, for the scanner's loops.
 -- Assumes nothing.
-use mathlib.Core.Path.{◌≡◌, ap}
-use mathlib.Core.Bool.{Bool, true, false, not}
+use mathlib.Core.Path.{◌≡◌, ap, sym, ◌∙◌}
+use mathlib.Core.Bool.{Bool, true, false, not, beq}
 use mathlib.Core.Logic.{◌⊎◌, ⊎_elim}
 use mathlib.Core.List.{List}
-use Prim.Native.Nat.{ℕ, suc, ◌+◌, ◌≤◌, ◌<◌}
+use Prim.Native.Nat.{ℕ, suc, ◌+◌, ◌≤◌, ◌<◌, max}
 use Prim.Native.Char.{code}
 use native.Mathlib.Numerals.{add-one}
 use native.Mathlib.Omega.{arith}
-use borrow.Author.Tests.{ne_eqb, eq-eqb, eqb-true, eqb-false}
-use lib.Dec.{eqb}
+use borrow.Author.Tests.{ne_eqb, eq-eqb, eqb-true, eqb-false, ltb-true, ltb-false}
+use lib.Dec.{eqb, ltb}
 use lib.ListN.{length, drop, get_or, drop_of_length-le}
 use lib.Seq.{drop-cons}
 use Rattle.qdimacs.specs.Bytes.{is_blank, is_solid, span, preamble}
+use Rattle.scan.specs.Scan.{passes}
 use Rattle.meaning.proofs.Basics.{by_cases}
 
 -- Blanks -----------------------------------------------------------------------------------------------------
@@ -32,6 +33,19 @@ pub solid-is : (b : ℕ) (x : Bool) → is_blank b ≡ x → is_solid b ≡ not 
 unfolding is_solid
 solid-is b x e = ap not e
 
+-- a byte that is passed, and one that is not
+pub pass-yes : (k : Bool) (b : ℕ) (r : Bool) → r ≡ is_blank b → not (beq r k) ≡ false → passes k b ≡ true
+pass-yes true b true e h = sym e
+pass-yes true b false e h = sym e ∙ sym h
+pass-yes false b true e h = solid-is b true (sym e) ∙ sym h
+pass-yes false b false e h = solid-is b false (sym e)
+
+pub pass-no : (k : Bool) (b : ℕ) (r : Bool) → r ≡ is_blank b → not (beq r k) ≡ true → passes k b ≡ false
+pass-no true b true e h = sym e ∙ sym h
+pass-no true b false e h = sym e
+pass-no false b true e h = solid-is b true (sym e)
+pass-no false b false e h = solid-is b false (sym e) ∙ sym h
+
 -- A loop that counts while a test holds: what is counted and what is left make the whole -----------------------
 module _ (p : ℕ → Bool) (s : List ℕ) (i : ℕ) where
   pub span_more : i < length s → p (get_or s i 0) ≡ true → span p (drop i s) ≡ suc (span p (drop (suc i) s))
@@ -47,6 +61,14 @@ module _ (p : ℕ → Bool) (s : List ℕ) (i : ℕ) where
 
     pub span-over : length s ≤ i → i ≡ n
     span-over h = let z : span p (drop i s) ≡ 0 = unfold span in rw (drop_of_length-le s h) in omega arith
+
+-- the end of the loop that began at `from`, which may be past the text
+pub span-end : (p : ℕ → Bool) (s : List ℕ) (from i n : ℕ) → n ≡ from + span p (drop from s) → n ≡ i + span p (drop i s)
+    → length s ≤ i → (from ≤ length s → i ≤ length s) → max from (length s) ≡ n
+span-end p s from i n a b h k =
+    by_cases (ltb from (length s))
+    (λ e. let z = ltb-true from (length s) e in omega (arith, span-over p s i n b h, k (omega arith)))
+    (λ e. let z = ltb-false from (length s) e in omega (arith, span-over p s from n a z))
 
 -- The same for the comments and blanks before the first token: f says whether a comment is running before a byte, and g after
 module _ (s : List ℕ) (i n : ℕ) (f : Bool) (inv : n ≡ i + preamble f (drop i s)) where

@@ -12,7 +12,7 @@ use lib.ListN.{length, take, drop, get_or, drop_of_length-le, length-drop}
 use lib.Seq.{drop-drop, get_or-drop}
 use Rattle.qdimacs.specs.Bytes.{Token, is_blank, is_solid, span, tokens_from, preamble}
 use Rattle.scan.specs.Scan.{token_start, token_end, next_in}
-use Rattle.scan.specs.declared.bytes.Next.TheVariants.{Run, End}
+use Rattle.std.specs.Prelude.{Option, Some, None}
 use Rattle.meaning.proofs.Basics.{by_cases}
 use Rattle.scan.proofs.Spans.{solid-is, span_more}
 
@@ -67,12 +67,12 @@ preamble-le false (b ∷ bs) =
     (λ e. by_cases (eqb b 99) (λ k. rw (e, k) (omega (arith, preamble-le true bs))) (λ k. rw (e, k) (omega arith)))
 
 -- what an answer of the scanner tells
-end-inv : (t : Bool) (a e : ℕ) → cond t (Run a e) End ≡ End → t ≡ false
+end-inv : (t : Bool) (a e : ℕ) → cond {A = Option (ℕ × ℕ)} t (Some (a, e)) None ≡ None → t ≡ false
 end-inv true a e h = absurd (let z : ◌≡◌ {A = ℕ} 0 1 = cc in omega arith)
 end-inv false a e h = refl
 
-run-inv : (t : Bool) (a e x y : ℕ) → cond t (Run a e) End ≡ Run x y → (t ≡ true) × (x ≡ a) × (y ≡ e)
-run-inv true a e x y h = (refl, cc, cc)
+run-inv : (t : Bool) (a e x y : ℕ) → cond {A = Option (ℕ × ℕ)} t (Some (a, e)) None ≡ Some (x, y) → (t ≡ true) × (x ≡ a) × (y ≡ e)
+run-inv true a e x y h = let z : ◌≡◌ {A = ℕ × ℕ} (x, y) (a, e) = cc in (refl, ap (λ (w : ℕ × ℕ). w.0) z, ap (λ (w : ℕ × ℕ). w.1) z)
 run-inv false a e x y h = absurd (let z : ◌≡◌ {A = ℕ} 0 1 = cc in omega arith)
 
 -- a token that is found: where it stands, and that it is the first of those that are left
@@ -83,7 +83,7 @@ pub record Found (s : List ℕ) (i a e : ℕ) : Type 0 where
   pub first : tokens_from false i (drop i s) ≡ record { at = a; bytes = take (e - a) (drop a s) } ∷ tokens_from false e (drop e s)
 
 module _ (s : List ℕ) (i : ℕ) where
-  pub none_left : next_in s i ≡ End → tokens_from false i (drop i s) ≡ []
+  pub none_left : next_in s i ≡ None → tokens_from false i (drop i s) ≡ []
   unfolding next_in token_start tokens_from
   none_left h =
       let l : length s ≤ token_start s i = ltb-false (token_start s i) (length s) (end-inv (ltb (token_start s i) (length s)) _ _ h) in
@@ -112,7 +112,7 @@ module _ (s : List ℕ) (i : ℕ) where
               rw (drop-drop (span is_blank (drop i s)) i s, ← p, g, token-here (drop a s) a n f, drop-drop (span is_solid (drop a s)) a s, ← q);
         }
 
-  pub found : (a e : ℕ) → next_in s i ≡ Run a e → Found s i a e
+  pub found : (a e : ℕ) → next_in s i ≡ Some (a, e) → Found s i a e
   unfolding next_in
   found a e h =
       let k = run-inv (ltb (token_start s i) (length s)) (token_start s i) (token_end s (token_start s i)) a e h in

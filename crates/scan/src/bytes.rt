@@ -1,14 +1,7 @@
 // Tokens: runs of bytes other than space, tab, CR and LF.
 ghost use Rattle.std.specs.Prelude.{◌≡◌, false};
 ghost use Rattle.qdimacs.specs.Bytes.{is_blank, preamble};
-ghost use Rattle.scan.specs.Scan.{token_start, token_end, next_in};
-
-// The next token of a text: where it starts and where it ends; or there is none.
-#[derive(Clone, Copy)]
-pub enum Next {
-    Run(usize, usize),
-    End,
-}
+ghost use Rattle.scan.specs.Scan.{run_end, next_in};
 
 // Space, tab, CR, LF.
 pub fn blank(b: u8) -> bool
@@ -20,44 +13,28 @@ pub fn blank(b: u8) -> bool
     }
 }
 
-// Where the next token starts, or the end of the text.
-pub fn skip_blanks(text: &[u8], from: usize) -> usize
-    ensures { result ≡ token_start text.now from }
+// Where a run of blanks that starts here ends, or with `false` a run of other bytes, which is a token.
+pub fn skip<const BLANK: bool>(text: &[u8], from: usize) -> usize
+    ensures { result ≡ run_end BLANK text.now from }
 {
-    let mut i = from;
-    while i < text.len() {
-        if !blank(text[i]) {
+    for i in from..text.len() {
+        if blank(text[i]) != BLANK {
             return i;
         }
-        i += 1;
     }
-    i
+    from.max(text.len())
 }
 
-// Where a token that starts here ends.
-pub fn skip_solids(text: &[u8], from: usize) -> usize
-    ensures { result ≡ token_end text.now from }
-{
-    let mut i = from;
-    while i < text.len() {
-        if blank(text[i]) {
-            return i;
-        }
-        i += 1;
-    }
-    i
-}
-
-// The next token at or after an offset.
-pub fn next_token(text: &[u8], from: usize) -> Next
+// Where the next token at or after an offset starts and where it ends, if there is one.
+pub fn next_token(text: &[u8], from: usize) -> Option<(usize, usize)>
     ensures { result ≡ next_in text.now from }
 {
-    let start = skip_blanks(text, from);
+    let start = skip::<true>(text, from);
     if start < text.len() {
-        let end = skip_solids(text, start);
-        Next::Run(start, end)
+        let end = skip::<false>(text, start);
+        Some((start, end))
     } else {
-        Next::End
+        None
     }
 }
 
@@ -65,21 +42,17 @@ pub fn next_token(text: &[u8], from: usize) -> Next
 pub fn skip_preamble(text: &[u8]) -> usize
     ensures { result ≡ preamble false text.now }
 {
-    let mut i = 0;
     let mut comment = false;
-    while i < text.len() {
-        let b = text[i];
+    for (i, b) in text.iter().enumerate() {
+        let b = *b;
         if comment {
             comment = b != b'\n';
-        } else {
-            if !blank(b) {
-                if b != b'c' {
-                    return i;
-                }
-                comment = true;
+        } else if !blank(b) {
+            if b != b'c' {
+                return i;
             }
+            comment = true;
         }
-        i += 1;
     }
-    i
+    text.len()
 }

@@ -8,6 +8,7 @@ ghost use Rattle.scan.specs.Phases.{right_phase};
 
 use qdimacs::{Move, Phase, Word};
 
+// Kept: the faults are numbers, since document 01 numbers them and `decide` of qdimacs/specs says `Fault 3`.
 const SYNTAX: u8 = 3;
 
 const RANGE: u8 = 5;
@@ -29,8 +30,7 @@ pub fn variable(w: Word) -> u16
     ensures { result ≡ variable_of w }
 {
     match w {
-        Word::Plain(n) => n,
-        Word::Minus(n) => n,
+        Word::Plain(n) | Word::Minus(n) => n,
         _ => 0,
     }
 }
@@ -54,6 +54,7 @@ pub fn on_cnf(w: Word) -> Move
     }
 }
 
+// Kept: M and C are two functions of three arms; one would take the limit and the move as arguments and be no shorter.
 pub fn on_m(w: Word) -> Move
     ensures { result ≡ on_m (plain_of w) }
 {

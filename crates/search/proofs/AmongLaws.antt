@@ -20,8 +20,7 @@ use Rattle.table.specs.Table.{Holds}
 use Rattle.table.specs.declared.Counts.{Counts}
 use Rattle.index.specs.Index.{clauses_with}
 use Rattle.search.specs.Candidates.{found_as, first_for}
-use Rattle.search.specs.declared.Found.{Found}
-use Rattle.search.specs.declared.Found.TheVariants.{Nothing}
+use Rattle.std.specs.Prelude.{Option, None}
 use Rattle.meaning.proofs.Basics.{by_cases, false_of, clash, or-il, or-ir, eqb-self, eqb-false}
 use Rattle.meaning.proofs.Lists.{all-has, any-has, has-keep}
 use Rattle.rules.proofs.Permitted.{subsume-says, equality-says}
@@ -52,7 +51,7 @@ module _ (φ : Formula) (a l : ℕ) (s : List ℕ) (is : s ≡ clauses_with φ.c
       let cs = φ.clauses in
       rw (is, with-kept cs l) (first-among t (λ b. has l (get_or cs b [])) a (up_from 0 (length cs)) h)
 
-  module _ (x : List ℕ) (at_a : x ≡ get_or φ.clauses a []) (r : Found) where
+  module _ (x : List ℕ) (at_a : x ≡ get_or φ.clauses a []) (r : Option (ℕ × ℕ)) where
     -- kind 3: a clause of which a is a part has each literal of a
     pub subsume-among : has l x ≡ true → r ≡ found_as (first_b (subsume_permitted φ a) a s) → r ≡ found_as (first_for φ subsume a)
     unfolding first_for permitted seconds uses_b clause_at part_of
@@ -73,7 +72,7 @@ module _ (φ : Formula) (a l : ℕ) (s : List ℕ) (is : s ≡ clauses_with φ.c
 
 -- where clause a is x, without a b
 module _ (φ : Formula) (a : ℕ) (x : List ℕ) (at_a : x ≡ get_or φ.clauses a []) where
-  pub equal-none : (length x ≡ 2 → ⊥) → Nothing ≡ found_as (first_for φ equality a)
+  pub equal-none : (length x ≡ 2 → ⊥) → None ≡ found_as (first_for φ equality a)
   unfolding first_for permitted found_as clause_at
   equal-none h =
       sym (ap found_as (first-none (equality_permitted φ a) a (seconds φ equality)

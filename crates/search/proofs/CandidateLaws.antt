@@ -17,8 +17,8 @@ use Rattle.rules.specs.Choice.{costly, light, wanted, allowed_call, indices, var
 use Rattle.table.specs.Table.{Holds}
 use Rattle.table.specs.declared.Counts.{Counts}
 use Rattle.search.specs.Candidates.{found_as, first_for}
-use Rattle.search.specs.declared.Found.{Found}
-use Rattle.search.specs.declared.Found.TheVariants.{Nothing, Pair}
+use Rattle.std.specs.Prelude.{Option, Some, None}
+use Rattle.std.specs.Option.{is_some}
 use Rattle.meaning.proofs.Basics.{clash}
 use Rattle.table.proofs.HoldLaws.{count-variables, count-clauses}
 use Rattle.search.proofs.PrefixLaws.{entry_at}
@@ -54,11 +54,11 @@ from_start E φ k e =
 
 -- in a kind that has no use for b, the first b is 0; m is what the test says
 module _ (φ : Formula) (k : Kind) (a : ℕ) (no-b : uses_b k ≡ false) (m : Bool) (is : m ≡ permitted φ k a 0) where
-  pub only_none : m ≡ false → Nothing ≡ found_as (first_for φ k a)
+  pub only_none : m ≡ false → None ≡ found_as (first_for φ k a)
   unfolding first_for seconds first_b found_as
   only_none e = rw (no-b, ← is, e)
 
-  pub only-found : m ≡ true → Pair a 0 ≡ found_as (first_for φ k a)
+  pub only-found : m ≡ true → Some (a, 0) ≡ found_as (first_for φ k a)
   unfolding first_for seconds first_b found_as
   only-found e = rw (no-b, ← is, e)
 
@@ -69,16 +69,16 @@ pub record Walk (φ : Formula) (k : Kind) (n : ℕ) (at : ℕ → ℕ) : Type 0 
   pub is : (i : ℕ) → i < n → get_or (firsts φ k) i 0 ≡ at i
 
 module _ {φ : Formula} {k : Kind} {n : ℕ} {at : ℕ → ℕ} (w : Walk φ k n at) (E i : ℕ) (inv : candidate E φ k ≡ candidate_from φ k i) where
-  module _ (h : i < n) (f : Found) (is : f ≡ found_as (first_for φ k (at i))) where
-    pub walk-next : f ≡ Nothing → candidate E φ k ≡ candidate_from φ k (i + 1)
+  module _ (h : i < n) (f : Option (ℕ × ℕ)) (is : f ≡ found_as (first_for φ k (at i))) where
+    pub walk-next : is_some f ≡ false → candidate E φ k ≡ candidate_from φ k (i + 1)
     unfolding candidate_from first_for
     walk-next e = a-next (permitted φ k) (firsts φ k) (seconds φ k) i inv (omega (arith, w.count)) f (rw (w.is i h) is) e
 
-    pub walk-found : (x y : ℕ) → f ≡ Pair x y → f ≡ found_as (candidate E φ k)
+    pub walk-found : is_some f ≡ true → f ≡ found_as (candidate E φ k)
     unfolding candidate_from first_for
-    walk-found x y e = a-found (permitted φ k) (firsts φ k) (seconds φ k) i inv (omega (arith, w.count)) f (rw (w.is i h) is) x y e
+    walk-found e = a-found (permitted φ k) (firsts φ k) (seconds φ k) i inv (omega (arith, w.count)) f (rw (w.is i h) is) e
 
-  pub walk_end : n ≤ i → Nothing ≡ found_as (candidate E φ k)
+  pub walk_end : n ≤ i → None ≡ found_as (candidate E φ k)
   unfolding candidate_from
   walk_end h = a-end (permitted φ k) (firsts φ k) (seconds φ k) i inv (omega (arith, w.count))
 

@@ -11,7 +11,8 @@ use Rattle.meaning.specs.Lists.{has}
 use Rattle.meaning.specs.Formula.{Formula, var, is_var, mentions}
 use Rattle.table.specs.Table.{Holds}
 use Rattle.table.specs.declared.Counts.{Counts}
-use Rattle.meaning.proofs.Basics.{eqb-self}
+use Rattle.std.specs.Prelude.{Contains}
+use Rattle.meaning.proofs.Basics.{eqb-self, eqb-eq}
 use Rattle.table.proofs.HoldLaws.{prefix-is}
 use Rattle.table.proofs.LoopLaws.{any_at}
 
@@ -22,6 +23,11 @@ pub has-at : (s : List ℕ) (i : ℕ) → i < length s → has (get_or s i 0) s 
 unfolding has
 has-at s i h = any_at (λ k. eqb (get_or s i 0) k) 0 s i h (eqb-self (get_or s i 0))
 
-pub mentions-at : (s : List ℕ) (i : ℕ) → i < length s → mentions s (get_or s i 0 / 2) ≡ true
+-- in the library's words
+pub has-in : (s : List ℕ) (l : ℕ) → Contains s l → has l s ≡ true
+unfolding has
+has-in s l m = any_at (λ k. eqb l k) l s m.0 m.1 (eqb-eq (sym m.2))
+
+pub mentions-in : (s : List ℕ) (l : ℕ) → Contains s l → mentions s (l / 2) ≡ true
 unfolding mentions is_var var
-mentions-at s i h = any_at (λ q. eqb (q / 2) (get_or s i 0 / 2)) 0 s i h (eqb-self (get_or s i 0 / 2))
+mentions-in s l m = any_at (λ k. eqb (k / 2) (l / 2)) l s m.0 m.1 (eqb-eq (ap (λ (k : ℕ). k / 2) m.2))

@@ -20,16 +20,16 @@ use Rattle.rules.specs.Choice.{none, or_else, first_pair, firsts, seconds, costl
 use Rattle.table.specs.Table.{Holds}
 use Rattle.table.specs.declared.Counts.{Counts}
 use Rattle.walks.specs.Walks.{some_strengthens}
-use Rattle.search.specs.Candidates.{found_as, first_for, Lowest}
+use Rattle.search.specs.Candidates.{found_as, first_for}
 use Rattle.search.specs.Searched.{SearchedTo, Alone}
-use Rattle.search.specs.declared.Found.{Found}
-use Rattle.search.specs.declared.Found.TheVariants.{Nothing}
+use Rattle.std.specs.Prelude.{Option}
+use Rattle.std.specs.Option.{is_some}
 use Rattle.meaning.proofs.Basics.{by_cases, false_of, clash, and_l, and_r, or-il, or_elim, not-true, eqb-self, eqb-true, eqb-false, eqb-ne}
 use Rattle.meaning.proofs.Lists.{any_append, same-path, same_self, same_turn}
 use Rattle.meaning.proofs.Parts.{distinct_of}
 use Rattle.rules.proofs.Permitted.{subsume-says, strengthen-says}
 use Rattle.rules.proofs.Search.{none-pair}
-use Rattle.rules.proofs.Choose.{listed, find_none}
+use Rattle.rules.proofs.Choose.{Used, listed, find_none}
 use Rattle.table.proofs.HoldLaws.{count-clauses}
 use Rattle.table.proofs.LoopLaws.{any_at}
 use Rattle.search.proofs.FirstLaws.{told_none, first-none}
@@ -194,33 +194,27 @@ module _ (φ : Formula) where
             rw (lt-ltb p.at n p.within, lt-ltb q.at n q.within, ← p.is, ← q.is) at (strong p.at q.at);
       }
 
-  -- and so they are where both kinds have no candidate
-  pub searched-all : (E : ℕ) → candidate E φ subsume ≡ none → candidate E φ strengthen ≡ none → (m : ℕ) → SearchedTo φ m
-  searched-all E e f = searched-of (subsume-none E φ e) (strengthen-none E φ f)
-
 -- The loop over the clauses that are not known to be searched: b is the next -----------------------------------------
 -- where the search for the b of clause a finds nothing, there is none
-first_alone : (φ : Formula) (a : ℕ) → first_for φ subsume a ≡ none → (b : ℕ) → subsume_permitted φ a b ≡ false
-unfolding first_for permitted uses_b first_pair or_else has any_of
-first_alone φ a e b =
-    false_of (subsume_permitted φ a b)
+first_alone : (φ : Formula) (k : Kind) (a : ℕ) → ((b : ℕ) → Used k b) → first_for φ k a ≡ none → (b : ℕ) → permitted φ k a b ≡ false
+unfolding first_for first_pair or_else has any_of
+first_alone φ k a used e b =
+    false_of (permitted φ k a b)
     (λ p. clash p
-    (none-pair (permitted φ subsume) (a ∷ []) (seconds φ subsume) (rw e) a b (or-il (eqb a a) false (eqb-self a))
-    (listed φ subsume a b refl p).1))
+    (none-pair (permitted φ k) (a ∷ []) (seconds φ k) (rw e) a b (or-il (eqb a a) false (eqb-self a))
+    (listed φ k a b (used b) p).1))
 
 module _ {φ : Formula} {t : List ℕ} {c : Counts} (h : Holds φ t c) (b : ℕ) where
-  pub subsume-alone : (f : Found) → f ≡ found_as (first_for φ subsume b) → f ≡ Nothing → ((a : ℕ) → subsume_permitted φ a b ≡ false)
+  pub subsume-alone : (f : Option (ℕ × ℕ)) → f ≡ found_as (first_for φ subsume b) → is_some f ≡ false → ((a : ℕ) → subsume_permitted φ a b ≡ false)
       → Alone (subsume_permitted φ) b
-  subsume-alone f is e into = record { left = first_alone φ b (told_none (first_for φ subsume b) (sym is ∙ e)); right = into }
+  unfolding permitted uses_b
+  subsume-alone f is e into = record { left = first_alone φ subsume b (λ d. refl) (told_none (first_for φ subsume b) (ap is_some (sym is) ∙ e)); right = into }
 
-  pub strengthen-alone : (r : ℕ) → Lowest (strengthen_permitted φ b) c.clauses r → c.clauses ≤ r
+  pub strengthen-alone : (f : Option (ℕ × ℕ)) → f ≡ found_as (first_for φ strengthen b) → is_some f ≡ false
       → ((a : ℕ) → strengthen_permitted φ a b ≡ false) → Alone (strengthen_permitted φ) b
-  strengthen-alone r low n into =
-      record {
-        left = λ d. false_of (strengthen_permitted φ b d)
-            (λ e. let i = strengthen-inside φ b d e in clash e (low.least d (omega (arith, count-clauses h))));
-        right = into;
-      }
+  unfolding permitted uses_b
+  strengthen-alone f is e into =
+      record { left = first_alone φ strengthen b (λ d. refl) (told_none (first_for φ strengthen b) (ap is_some (sym is) ∙ e)); right = into }
 
   -- none is left
   module _ (n : c.clauses ≤ b) (E : ℕ) where

@@ -20,20 +20,20 @@ use Rattle.table.specs.declared.Counts.{Counts}
 use Rattle.index.specs.Index.{clauses_with}
 use Rattle.index.specs.Signs.{variables_in}
 use Rattle.walks.specs.Walks.{some_strengthens}
-use Rattle.search.specs.Candidates.{found_as, first_for, lowest, Lowest}
-use Rattle.search.specs.declared.Found.TheVariants.{Nothing, Pair}
+use Rattle.search.specs.Candidates.{found_as, first_for, lowest_of}
+use Rattle.std.specs.Prelude.{Some, None}
 use Rattle.meaning.proofs.Basics.{by_cases, false_of, clash, or-il, or-ir, or_elim, eqb-true}
 use Rattle.meaning.proofs.Lists.{any_append, any-witness, all-has}
 use Rattle.meaning.proofs.Literals.{plain-is, negated-is, var-opp}
 use Rattle.meaning.proofs.Ascends.{once-opp}
 use Rattle.rules.proofs.Permitted.{strengthen-says}
-use Rattle.table.proofs.HoldLaws.{count-clauses}
 use Rattle.permits.proofs.ClauseLaws.{absent, present}
 use Rattle.search.proofs.StudyLaws.{clause-rises}
 use Rattle.walks.proofs.MergeLaws.{strong-longer}
 use Rattle.search.proofs.SignedLaws.{mentioned, strengthen-variables}
+use Rattle.search.proofs.FirstLaws.{first-none}
 use Rattle.search.proofs.AmongLaws.{with-has, lists-none}
-use Rattle.search.proofs.LowestLaws.{lowest-all, lowest-none, lowest-nothing, lowest-found}
+use Rattle.search.proofs.LowestLaws.{lowest-none, lowest-some, lowest-nothing, lowest-found}
 
 -- The test of one clause: x is clause a --------------------------------------------------------------------------
 pub strong-no-a : {φ : Formula} {t : List ℕ} {c : Counts} → Holds φ t c → (a b : ℕ) → c.clauses ≤ a → false ≡ strengthen_permitted φ a b
@@ -118,29 +118,31 @@ strong-none φ b y at_b n =
 -- The lowest -----------------------------------------------------------------------------------------------------
 module _ {φ : Formula} {t : List ℕ} {c : Counts} (h : Holds φ t c) (a : ℕ) where
   module _ (x : List ℕ) (at_a : x ≡ get_or φ.clauses a []) where
-    pub strong-empty : length x ≡ 0 → Lowest (strengthen_permitted φ a) c.clauses c.clauses
-    unfolding clause_at
+    pub strong-empty : length x ≡ 0 → None ≡ found_as (first_for φ strengthen a)
+    unfolding first_for permitted found_as clause_at
     strong-empty z =
-        lowest-none (strengthen_permitted φ a) c.clauses
-        (λ b. false_of (strengthen_permitted φ a b) (λ e. none x z (strengthen_lit φ a b) (rw at_a (strengthen-says φ a b e).in-a)))
+        sym (ap found_as (first-none (strengthen_permitted φ a) a (seconds φ strengthen)
+        (λ b. false_of (strengthen_permitted φ a b) (λ e. none x z (strengthen_lit φ a b) (rw at_a (strengthen-says φ a b e).in-a)))))
       where
         none : (y : List ℕ) → length y ≡ 0 → (l : ℕ) → has l y ≡ true → ⊥
         none [] q l i = clash i (unfold has any_of in refl)
         none (m ∷ y) q l i = omega arith
 
     -- s are the clauses with a variable v of x
-    pub strong-lowest : (v : ℕ) → mentions x v ≡ true → (s : List ℕ) → s ≡ clauses_with φ.clauses (2 * v) ++ clauses_with φ.clauses (2 * v + 1)
-        → (r : ℕ) → r ≡ lowest (strengthen_permitted φ a) c.clauses s → Lowest (strengthen_permitted φ a) c.clauses r
-    unfolding clause_at
-    strong-lowest v i s is r e = rw e (lowest-all (strengthen_permitted φ a) c.clauses s all)
-      where
-        all : (b : ℕ) → strengthen_permitted φ a b ≡ true → has b s ≡ true
-        all b p = rw is (listed φ v b (inside φ a b p) (all-mentioned (clause_at φ.clauses a) (clause_at φ.clauses b) v (strengthen-variables φ a b p) (rw at_a at i)))
+    module _ (v : ℕ) (i : mentions x v ≡ true) (s : List ℕ) (is : s ≡ clauses_with φ.clauses (2 * v) ++ clauses_with φ.clauses (2 * v + 1)) where
+      all : (b : ℕ) → strengthen_permitted φ a b ≡ true → has b s ≡ true
+      unfolding clause_at
+      all b p = rw is (listed φ v b (inside φ a b p) (all-mentioned (clause_at φ.clauses a) (clause_at φ.clauses b) v (strengthen-variables φ a b p) (rw at_a at i)))
 
-  pub strong-nothing : (r : ℕ) → Lowest (strengthen_permitted φ a) c.clauses r → c.clauses ≤ r → Nothing ≡ found_as (first_for φ strengthen a)
-  unfolding first_for permitted seconds uses_b indices
-  strong-nothing r low n = rw (← count-clauses h) (lowest-nothing (strengthen_permitted φ a) a c.clauses r low n)
+      pub strong-nothing : None ≡ lowest_of (strengthen_permitted φ a) s → None ≡ found_as (first_for φ strengthen a)
+      unfolding first_for permitted seconds uses_b indices
+      strong-nothing e =
+          let n = length φ.clauses in
+          lowest-nothing (strengthen_permitted φ a) a n n (lowest-none (strengthen_permitted φ a) n s all e) (omega arith)
 
-  pub strong-found : (r : ℕ) → Lowest (strengthen_permitted φ a) c.clauses r → r < c.clauses → Pair a r ≡ found_as (first_for φ strengthen a)
-  unfolding first_for permitted seconds uses_b indices
-  strong-found r low n = rw (← count-clauses h) (lowest-found (strengthen_permitted φ a) a c.clauses r low n)
+      pub strong-found : (r : ℕ) → Some r ≡ lowest_of (strengthen_permitted φ a) s → Some (a, r) ≡ found_as (first_for φ strengthen a)
+      unfolding first_for permitted seconds uses_b indices
+      strong-found r e =
+          let n = length φ.clauses in
+          let l = lowest-some (strengthen_permitted φ a) n s all (inside φ a) r e in
+          lowest-found (strengthen_permitted φ a) a n r l.1 l.0

@@ -4,25 +4,22 @@ use Prim.Native.Nat.{ℕ, ◌<◌}
 use mathlib.Core.Path.{◌≡◌, ap, ◌∙◌}
 use mathlib.Core.Bool.{true}
 use mathlib.Core.List.{List, []}
-use lib.ListN.{length, get_or}
+use lib.ListN.{get_or}
 use Rattle.meaning.specs.Formula.{Formula}
 use Rattle.meaning.specs.WellFormed.{ascends, well_formed}
 use Rattle.rules.specs.Simplify.{clause_at}
-use Rattle.table.specs.Table.{Holds, Held}
+use Rattle.table.specs.Table.{Holds, decode}
 use Rattle.table.specs.declared.Counts.{Counts}
-use Rattle.index.specs.Study.{Study}
+use Rattle.index.specs.Study.{Studied, Study}
 use Rattle.meaning.proofs.Parts.{ascends-of}
 use Rattle.rules.proofs.Permitted.{tidy-at}
-use Rattle.table.proofs.HoldLaws.{held}
-use Rattle.table.proofs.RankLaws.{length-ranks}
+use Rattle.table.proofs.DecodeLaws.{decode-holds}
 use Rattle.permits.proofs.ClauseLaws.{present}
 
 module _ {t : List ℕ} {c : Counts} {ranks index : List ℕ} (s : Study t c ranks index) where
-  pub study-held : Held t c
-  study-held = held s.studied.holds
-
-  pub study-ranks : length ranks ≡ 1024
-  study-ranks = ap length s.studied.ranked ∙ length-ranks s.formula.prefix
+  -- the formula is that of the table
+  pub studied-in : Studied (decode t c) t c ranks index
+  studied-in = rw (decode-holds s.formula t c s.studied.holds) s.studied
 
 -- the variables of its clauses ascend
 pub clause-rises : {φ : Formula} {t : List ℕ} {c : Counts} → Holds φ t c → well_formed φ ≡ true

@@ -1,19 +1,20 @@
 -- The code's answer for a candidate of a kind, and for what it is made of.
 -- Assumes nothing.
-use Rattle.std.specs.Prelude.{ℕ, ◌≤◌, ◌<◌, ◌≡◌, Bool, true, false, ◌&&◌, cond, ltb, get_or}
-use mathlib.Core.List.{List, [], foldl}
+use Rattle.std.specs.Prelude.{ℕ, ◌≤◌, ◌<◌, ◌≡◌, Bool, true, false, get_or}
+use mathlib.Core.List.{List, []}
 use Rattle.meaning.specs.Formula.{Formula}
 use Rattle.rules.specs.Entry.{Kind}
 use Rattle.rules.specs.Step.{permitted}
 use Rattle.rules.specs.Choice as rules
 use Rattle.rules.specs.Choice.{none, found, first_b, seconds}
 use Rattle.index.specs.Signs.{signature_of, Signs}
-use Rattle.search.specs.declared.Found.{Found}
-use Rattle.search.specs.declared.Found.TheVariants.{Nothing, Pair}
+use Rattle.std.specs.Prelude.{Option, Some, None, min}
+use Rattle.std.specs.List.{reduce}
+use Rattle.meaning.specs.Lists.{keep_if}
 
-unfoldable pub found_as : rules.Found → Found
-found_as none = Nothing
-found_as (found a b) = Pair a b
+unfoldable pub found_as : rules.Found → Option (ℕ × ℕ)
+found_as none = None
+found_as (found a b) = Some (a, b)
 
 -- "the lowest a, then b": the first b for one a of a kind
 unfoldable pub first_for : Formula → Kind → ℕ → rules.Found
@@ -27,13 +28,9 @@ pub record Signed (φ : Formula) (signs : List ℕ) (sign : ℕ) (x : List ℕ) 
   pub all : Signs φ.clauses signs
 
 -- Kind 4, by the lowest b ---------------------------------------------------------------------------------------
--- the lower of the best so far and of b, where b passes the test
-unfoldable pub lower_if : (ℕ → Bool) → ℕ → ℕ → ℕ
-lower_if t best b = cond (ltb b best && t b) b best
-
--- the lowest of the best so far and of the numbers of the list that pass
-unfoldable pub lowest : (ℕ → Bool) → ℕ → List ℕ → ℕ
-lowest t best l = foldl (lower_if t) best l
+-- the lowest of the numbers of the list that pass the test
+unfoldable pub lowest_of : (ℕ → Bool) → List ℕ → Option ℕ
+lowest_of t l = reduce min (keep_if t l)
 
 -- r is the lowest number below n that passes, or n where none does
 pub record Lowest (t : ℕ → Bool) (n r : ℕ) : Type 0 where

@@ -8,29 +8,26 @@ ghost use Rattle.table.specs.Table.{Holds, Held};
 ghost use Rattle.index.specs.Index.{Indexes, Indexed};
 ghost use Rattle.search.specs.Candidates.{found_as, first_for};
 
-use crate::Found;
 use index::clauses_with;
 use permits::equality_permitted;
 use table::{Counts, clause_at, flip};
 
 // The first of these clauses that is such a pair with clause a.
-fn first_equal(t: &[u16], c: Counts, a: usize, among: &[u16]) -> Found
+fn first_equal(t: &[u16], c: Counts, a: usize, among: &[u16]) -> Option<(usize, usize)>
     requires { Held t.now c }
     ensures { (φ : Formula) → Holds φ t.now c → result ≡ found_as (first_b (equality_permitted φ a) a among.now) }
 {
-    let mut i = 0;
-    while i < among.len() {
-        let b = among[i] as usize;
+    for b in among {
+        let b = *b as usize;
         if equality_permitted(t, c, a, b) {
-            return Found::Pair(a, b);
+            return Some((a, b));
         }
-        i += 1;
     }
-    Found::Nothing
+    None
 }
 
 // The first clause that is such a pair with clause a: it has the opposite of a's first literal.
-fn equal_to(t: &[u16], c: Counts, index: &[u16], a: usize) -> Found
+fn equal_to(t: &[u16], c: Counts, index: &[u16], a: usize) -> Option<(usize, usize)>
     requires held { Held t.now c }
     requires indexed { Indexed index.now }
     requires a_lt_clauses { a < c.clauses }
@@ -38,28 +35,22 @@ fn equal_to(t: &[u16], c: Counts, index: &[u16], a: usize) -> Found
 {
     let clause = clause_at(t, c, a);
     if clause.len() != 2 {
-        return Found::Nothing;
+        return None;
     }
     let l = flip(clause[0]);
     first_equal(t, c, a, clauses_with(index, l))
 }
 
-pub fn find_equality(t: &[u16], c: Counts, index: &[u16]) -> Found
+pub fn find_equality(t: &[u16], c: Counts, index: &[u16]) -> Option<(usize, usize)>
     requires held { Held t.now c }
     requires indexed { Indexed index.now }
     ensures { (φ : Formula) (E : ℕ) → Holds φ t.now c → Indexes φ index.now → result ≡ found_as (candidate E φ rules.equality) }
 {
-    let mut a = 0;
-    while a < c.clauses {
+    for a in 0..c.clauses {
         let first = equal_to(t, c, index, a);
-        match first {
-            Found::Nothing => {
-                a += 1;
-            }
-            Found::Pair(_, _) => {
-                return first;
-            }
+        if first.is_some() {
+            return first;
         }
     }
-    Found::Nothing
+    None
 }

@@ -8,7 +8,6 @@ ghost use Rattle.table.specs.Table.{Holds, Held};
 ghost use Rattle.index.specs.Build.{Tallies, Tallied};
 ghost use Rattle.search.specs.Candidates.{found_as};
 
-use crate::Found;
 use index::times_in;
 use table::Counts;
 
@@ -18,24 +17,19 @@ fn is_lone(tally: &[u16], v: u16) -> bool
     requires v_bound { v < 32768 }
     ensures { (φ : Formula) → Tallies φ tally.now → result ≡ not (occurs (plain v) φ.clauses && occurs (negated v) φ.clauses) }
 {
-    if times_in(tally, 2 * v) == 0 {
-        return true;
-    }
-    times_in(tally, 2 * v + 1) == 0
+    times_in(tally, 2 * v) == 0 || times_in(tally, 2 * v + 1) == 0
 }
 
-pub fn find_pure(t: &[u16], c: Counts, tally: &[u16]) -> Found
+pub fn find_pure(t: &[u16], c: Counts, tally: &[u16]) -> Option<(usize, usize)>
     requires held { Held t.now c }
     requires tallied { Tallied tally.now }
     ensures { (φ : Formula) (E : ℕ) → Holds φ t.now c → Tallies φ tally.now → result ≡ found_as (candidate E φ rules.pure) }
 {
-    let mut i = 0;
-    while i < c.variables {
+    for i in 0..c.variables {
         let v = t[i] / 2;
         if is_lone(tally, v) {
-            return Found::Pair(v as usize, 0);
+            return Some((v as usize, 0));
         }
-        i += 1;
     }
-    Found::Nothing
+    None
 }

@@ -6,20 +6,17 @@ ghost use Rattle.rules.specs.Choice.{candidate};
 ghost use Rattle.table.specs.Table.{Holds, Held};
 ghost use Rattle.search.specs.Candidates.{found_as};
 
-use crate::Found;
 use permits::unit_permitted;
 use table::Counts;
 
-pub fn find_unit(t: &[u16], c: Counts) -> Found
+pub fn find_unit(t: &[u16], c: Counts) -> Option<(usize, usize)>
     requires { Held t.now c }
     ensures { (φ : Formula) (E : ℕ) → Holds φ t.now c → result ≡ found_as (candidate E φ rules.unit) }
 {
-    let mut a = 0;
-    while a < c.clauses {
+    for a in 0..c.clauses {
         if unit_permitted(t, c, a) {
-            return Found::Pair(a, 0);
+            return Some((a, 0));
         }
-        a += 1;
     }
-    Found::Nothing
+    None
 }

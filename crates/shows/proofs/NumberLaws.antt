@@ -3,7 +3,8 @@
 use Prim.Native.Nat.{ℕ, ◌+◌, ◌*◌, ◌≤◌, ◌<◌}
 use native.Mathlib.Omega.{arith}
 use mathlib.Core.Path.{◌≡◌, ap}
-use mathlib.Core.List.{List}
+use mathlib.Core.List.{List, [], ◌∷◌}
+use Rattle.std.specs.Int.{w32, w64, from_le_bytes}
 use lib.ListN.{length, get_or, set}
 use lib.Dec.{eqb}
 use lib.Seq.{get_or-set_same, get_or-set_other}
@@ -13,14 +14,13 @@ use Rattle.shows.specs.Numbers.{counts_for, number_at, EntryOf}
 byte_at : (b : List ℕ) (m n : ℕ) → m ≡ n → get_or b m 0 ≡ get_or b n 0
 byte_at b m n e = ap (λ (k : ℕ). get_or b k 0) e
 
-pub word_of : (b : List ℕ) (at l h r : ℕ) → l ≡ get_or b at 0 + 256 * get_or b (at + 1) 0 → h ≡ get_or b (at + 2) 0 + 256 * get_or b (at + 3) 0 → r ≡ l + 65536 * h → r ≡ number_at b at 4
+pub word_of : (b : List ℕ) (at r : ℕ) → r ≡ from_le_bytes w32 (get_or b at 0 ∷ get_or b (at + 1) 0 ∷ get_or b (at + 2) 0 ∷ get_or b (at + 3) 0 ∷ []) → r ≡ number_at b at 4
 unfolding number_at counts_for
-word_of b at l h r p q e = omega (arith, p, q, e, byte_at b (at + 0) at (omega arith))
+word_of b at r e = omega (arith, e, byte_at b (at + 0) at (omega arith))
 
-pub long_of : (b : List ℕ) (at l h r : ℕ) → l ≡ number_at b at 4 → h ≡ number_at b (at + 4) 4 → r ≡ l + 4294967296 * h → r ≡ number_at b at 8
+pub long_of : (b : List ℕ) (at r : ℕ) → r ≡ from_le_bytes w64 (get_or b at 0 ∷ get_or b (at + 1) 0 ∷ get_or b (at + 2) 0 ∷ get_or b (at + 3) 0 ∷ get_or b (at + 4) 0 ∷ get_or b (at + 5) 0 ∷ get_or b (at + 6) 0 ∷ get_or b (at + 7) 0 ∷ []) → r ≡ number_at b at 8
 unfolding number_at counts_for
-long_of b at l h r p q e =
-    omega (arith, p, q, e, byte_at b (at + 4 + 0) (at + 4) (omega arith), byte_at b (at + 4 + 1) (at + 5) (omega arith), byte_at b (at + 4 + 2) (at + 6) (omega arith), byte_at b (at + 4 + 3) (at + 7) (omega arith))
+long_of b at r e = omega (arith, e, byte_at b (at + 0) at (omega arith))
 
 pub entry-given : (b : List ℕ) (n k v : ℕ) → k < n → v ≡ get_or b (2 * k) 0 + 256 * get_or b (2 * k + 1) 0 → EntryOf b n k v
 unfolding number_at counts_for

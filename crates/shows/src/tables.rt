@@ -1,37 +1,26 @@
 // Tables, as lists of numbers.
 ghost use Rattle.std.specs.Prelude.{ℕ, ◌+◌, ◌*◌, ◌≤◌, ◌<◌, ◌≡◌, length, get_or};
-ghost use Rattle.shows.specs.Numbers.{number_at, EntryOf, Filled};
+ghost use Rattle.shows.specs.Numbers.{EntryOf, Filled};
 
-use crate::numbers::{pair, take_word};
+use crate::numbers::pair;
 
 // How many numbers are not zero.
 pub fn used(t: &[u16]) -> usize
     ensures { result ≤ length t.now }
 {
-    let mut n: usize = 0;
-    let mut i = 0;
-    while i < t.len() {
-        if t[i] != 0 {
-            n += 1;
-        }
-        i += 1;
-    }
-    n
+    t.iter().filter(|x| **x != 0).count()
 }
 
 // How many numbers of a table reach to the last that is not zero.
 pub fn reach(t: &[u16]) -> usize
     ensures { (result ≤ length t.now) × ((k : ℕ) → result ≤ k → get_or t.now k 0 ≡ 0) × ((k : ℕ) → result ≡ k + 1 → 0 < get_or t.now k 0) }
 {
-    let mut n = t.len();
-    while 0 < n {
-        let k = n - 1;
+    for k in (0..t.len()).rev() {
         if t[k] != 0 {
-            return n;
+            return k + 1;
         }
-        n = k;
     }
-    n
+    0
 }
 
 // Number k of a table of which the first `given` numbers stand in the bytes.
@@ -46,30 +35,12 @@ fn entry_of(bytes: &[u8], given: usize, k: usize) -> u16
 }
 
 // A table's first numbers, from bytes: those that are given, then zeros.
+// Kept: the two lengths beside the slices, since `Filled` and `Taken` of specs/ speak of them.
 pub fn fill(t: &mut [u16], size: usize, bytes: &[u8], given: usize)
     requires { (size ≤ length t.old) × (2 * given ≤ length bytes.now) }
     ensures { Filled bytes.now given size t.new }
 {
-    let mut i = 0;
-    while i < size {
+    for i in 0..size {
         t[i] = entry_of(bytes, given, i);
-        i += 1;
     }
-}
-
-// The number of four bytes behind a table's numbers, from a place on; 0 where they are not there.
-pub fn word_after(bytes: &[u8], given: usize, at: usize) -> usize
-    ensures value { 2 * given + at + 4 ≤ length bytes.now → result ≡ number_at bytes.now (2 * given + at) 4 }
-    ensures value_2 { length bytes.now < 2 * given + at + 4 → result ≡ 0 }
-{
-    if bytes.len() < 4 {
-        return 0;
-    }
-    if bytes.len() - 4 < at {
-        return 0;
-    }
-    if (bytes.len() - 4 - at) / 2 < given {
-        return 0;
-    }
-    take_word(bytes, 2 * given + at) as usize
 }

@@ -18,7 +18,6 @@ use Rattle.sides.specs.Sides.{Filed, File}
 use Rattle.meaning.proofs.Weight.{keep-length}
 use Rattle.meaning.proofs.Parts.{room_of}
 use Rattle.table.proofs.HoldLaws.{held}
-use Rattle.table.proofs.RankLaws.{length-ranks}
 use Rattle.index.proofs.ClauseLaws.{with-clauses, with-length, with_at}
 use Rattle.index.proofs.ReadLaws.{indexed, studied-indexes}
 use Rattle.merging.proofs.OrderedLaws.{ordered_at, ordered-kept}
@@ -35,9 +34,6 @@ file-held {t} {c} {index} f = held f.filed.holds
 
 pub file-indexed : {t : List ℕ} {c : Counts} {index : List ℕ} → File t c index → Indexed index
 file-indexed {t} {c} {index} f = indexed f.filed.indexes
-
-pub study-ranks : {t : List ℕ} {c : Counts} {ranks index : List ℕ} → Study t c ranks index → length ranks ≡ 1024
-study-ranks {t} {c} {ranks} {index} s = ap length s.studied.ranked ∙ length-ranks s.formula.prefix
 
 -- The clauses with a literal ---------------------------------------------------------------------------------------------
 mapped_at : (f : ℕ → List ℕ) (s : List ℕ) (i : ℕ) → i < length s → get_or (map f s) i [] ≡ f (get_or s i 0)

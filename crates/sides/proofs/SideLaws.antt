@@ -10,6 +10,7 @@ use lib.Seq.{drop-cons}
 use borrow.Author.Tests.{lt-ltb, le-ltb}
 use native.Mathlib.Numerals.{add-one}
 use native.Mathlib.Omega.{arith}
+use Rattle.std.specs.List.{fold}
 use Rattle.meaning.specs.Lists.{all_of, any_of, keep_if, has, same}
 use Rattle.meaning.specs.Formula.{Formula}
 use Rattle.meaning.specs.WellFormed.{literals}
@@ -75,14 +76,10 @@ module _ (cs : List (List ℕ)) (l k n m : ℕ) (is-n : n ≡ length (with_lit l
   unfolding rarer
   rarer-first h = rw (← is-n, ← is_m, le-ltb m n h)
 
-module _ (cs : List (List ℕ)) (c : List ℕ) (l i : ℕ) where
-  pub rarest-turn : i < length c → (x : ℕ) → x ≡ rarer cs l (get_or c i 0) → rarest_of cs l (drop i c) ≡ rarest_of cs x (drop (i + 1) c)
-  unfolding rarest_of
-  rarest-turn h x e = rw (add-one, drop-cons c i 0 h, e)
-
-  pub rarest-end : length c ≤ i → rarest_of cs l (drop i c) ≡ l
-  unfolding rarest_of
-  rarest-end h = rw (drop_of_length-le c {i = i} h)
+pub rarest_fold : (cs : List (List ℕ)) (l : ℕ) (c : List ℕ) → fold (rarer cs) l c ≡ rarest_of cs l c
+unfolding rarest_of
+rarest_fold cs l [] = refl
+rarest_fold cs l (k ∷ c) = rarest_fold cs (rarer cs l k) c
 
 -- it is a literal of the clause
 rarest-of : (cs : List (List ℕ)) (l : ℕ) (c : List ℕ) → has (rarest_of cs l c) (l ∷ c) ≡ true

@@ -6,6 +6,7 @@ use Rattle.rules.specs.Eliminate.{with_lit}
 use Rattle.table.specs.Table.{Holds}
 use Rattle.table.specs.declared.Counts.{Counts}
 use Rattle.index.specs.Index.{Indexes}
+use Rattle.index.specs.declared.at_hand.AtHand.{AtHand}
 
 -- A formula in its table, and its index -----------------------------------------------------------------------------
 pub record Filed (φ : Formula) (t : List ℕ) (c : Counts) (index : List ℕ) : Type 0 where
@@ -15,6 +16,10 @@ pub record Filed (φ : Formula) (t : List ℕ) (c : Counts) (index : List ℕ) :
 pub record File (t : List ℕ) (c : Counts) (index : List ℕ) : Type 0 where
   pub formula : Formula
   pub filed : Filed formula t c index
+
+-- what is at hand has the formula φ in its table, and its index
+abbrev pub FiledIn : Formula → AtHand → Type 0
+FiledIn φ h = Filed φ h.table.now h.counts h.index.now
 
 -- The literal by which a clause is looked for ---------------------------------------------------------------------------
 -- of two literals the one in fewer clauses; the first, where they are in as many

@@ -6,21 +6,20 @@ ghost use Rattle.meaning.specs.WellFormed.{literals};
 ghost use Rattle.rules.specs.Eliminate.{with_lit};
 ghost use Rattle.permits.specs.Places.{side_within};
 ghost use Rattle.index.specs.Index.{clauses_with, Indexes, Indexed};
-ghost use Rattle.index.specs.Study.{Studied, Study};
+ghost use Rattle.index.specs.AtHand.{InHand};
 ghost use Rattle.sides.specs.Sides as sides;
-ghost use Rattle.sides.specs.Sides.{rarest_of, Filed, File};
+ghost use Rattle.sides.specs.Sides.{rarest_of, FiledIn};
 
-use index::clauses_with;
+use index::{AtHand, clauses_with};
 use permits::is_within;
-use table::{Counts, clause_at, equal, is_present};
+use table::{clause_at, equal, is_present};
 
 // How many clauses have the literal.
 pub fn count_with(index: &[u16], literal: u16) -> usize
     requires { Indexed index.now }
     ensures { (φ : Formula) → Indexes φ index.now → result ≡ length (with_lit literal φ.clauses) }
 {
-    let list = clauses_with(index, literal);
-    list.len()
+    clauses_with(index, literal).len()
 }
 
 // The number of the i-th clause that has the literal.
@@ -34,43 +33,33 @@ pub fn number_with(index: &[u16], literal: u16, i: usize) -> usize
 }
 
 // The i-th clause that has the literal.
-pub fn clause_with<'a>(t: &'a [u16], c: Counts, index: &[u16], literal: u16, i: usize) -> &'a [u16]
-    requires file { File t.now c index.now }
-    requires i_in_bounds { (φ : Formula) → Indexes φ index.now → i < length (with_lit literal φ.clauses) }
-    ensures { (φ : Formula) → Filed φ t.now c index.now → result.now ≡ get_or (with_lit literal φ.clauses) i [] }
+pub fn clause_with<'a>(at: &AtHand<'a>, literal: u16, i: usize) -> &'a [u16]
+    requires { (φ : Formula) → Indexes φ at.now.index.now → i < length (with_lit literal φ.clauses) }
+    ensures { (φ : Formula) → FiledIn φ at.now → result.now ≡ get_or (with_lit literal φ.clauses) i [] }
 {
-    let list = clauses_with(index, literal);
-    let j = list[i] as usize;
-    clause_at(t, c, j)
+    clause_at(at.table, at.counts, number_with(at.index, literal, i))
 }
 
 // How many literals they have.
-pub fn side_size(t: &[u16], c: Counts, index: &[u16], literal: u16) -> usize
-    requires { File t.now c index.now }
-    ensures { (φ : Formula) → Filed φ t.now c index.now → result ≡ literals (with_lit literal φ.clauses) }
+pub fn side_size(at: &AtHand, literal: u16) -> usize
+    ensures { (φ : Formula) → FiledIn φ at.now → result ≡ literals (with_lit literal φ.clauses) }
 {
-    let n = count_with(index, literal);
-    let mut sum: usize = 0;
-    let mut i = 0;
-    while i < n {
-        let clause = clause_with(t, c, index, literal, i);
+    let n = count_with(at.index, literal);
+    let mut sum = 0;
+    for i in 0..n {
+        let clause = clause_with(at, literal, i);
         sum += clause.len();
-        i += 1;
     }
     sum
 }
 
 // Whether none of their variables stands behind place n.
-pub fn side_near(t: &[u16], c: Counts, ranks: &[u16], index: &[u16], literal: u16, n: usize) -> bool
-    requires { Study t.now c ranks.now index.now }
-    ensures { (φ : Formula) → Studied φ t.now c ranks.now index.now → result ≡ side_within φ literal n }
+pub fn side_near(at: &AtHand, literal: u16, n: usize) -> bool
+    ensures { (φ : Formula) → InHand φ at.now → result ≡ side_within φ literal n }
 {
-    let m = count_with(index, literal);
-    let mut i = 0;
-    while i < m {
-        if is_within(clause_with(t, c, index, literal, i), ranks, n) {
-            i += 1;
-        } else {
+    let m = count_with(at.index, literal);
+    for i in 0..m {
+        if !is_within(clause_with(at, literal, i), at.ranks, n) {
             return false;
         }
     }
@@ -78,17 +67,14 @@ pub fn side_near(t: &[u16], c: Counts, ranks: &[u16], index: &[u16], literal: u1
 }
 
 // Whether one of them equals the clause.
-fn is_among(t: &[u16], c: Counts, index: &[u16], literal: u16, clause: &[u16]) -> bool
-    requires { File t.now c index.now }
-    ensures { (φ : Formula) → Filed φ t.now c index.now → result ≡ any_of (same clause.now) (with_lit literal φ.clauses) }
+fn is_among(at: &AtHand, literal: u16, clause: &[u16]) -> bool
+    ensures { (φ : Formula) → FiledIn φ at.now → result ≡ any_of (same clause.now) (with_lit literal φ.clauses) }
 {
-    let n = count_with(index, literal);
-    let mut i = 0;
-    while i < n {
-        if equal(clause, clause_with(t, c, index, literal, i)) {
+    let n = count_with(at.index, literal);
+    for i in 0..n {
+        if equal(clause, clause_with(at, literal, i)) {
             return true;
         }
-        i += 1;
     }
     false
 }
@@ -110,23 +96,17 @@ pub fn rarest(index: &[u16], clause: &[u16]) -> u16
     requires clause_nonzero { 0 < length clause.now }
     ensures { (φ : Formula) → Indexes φ index.now → result ≡ rarest_of φ.clauses (get_or clause.now 0 0) (drop 1 clause.now) }
 {
-    let mut best = clause[0];
-    let mut i = 1;
-    while i < clause.len() {
-        best = rarer(index, best, clause[i]);
-        i += 1;
-    }
-    best
+    let others = clause[1..].iter();
+    others.fold(clause[0], |best, literal| rarer(index, best, *literal))
 }
 
 // Whether the clause is one of the formula: only those with its rarest literal are looked at.
-pub fn is_clause(t: &[u16], c: Counts, index: &[u16], clause: &[u16]) -> bool
-    requires { File t.now c index.now }
-    ensures { (φ : Formula) → Filed φ t.now c index.now → result ≡ any_of (same clause.now) φ.clauses }
+pub fn is_clause(at: &AtHand, clause: &[u16]) -> bool
+    ensures { (φ : Formula) → FiledIn φ at.now → result ≡ any_of (same clause.now) φ.clauses }
 {
-    if clause.len() == 0 {
-        return is_present(t, c, clause);
+    if clause.is_empty() {
+        return is_present(at.table, at.counts, clause);
     }
-    let literal = rarest(index, clause);
-    is_among(t, c, index, literal, clause)
+    let literal = rarest(at.index, clause);
+    is_among(at, literal, clause)
 }

@@ -10,10 +10,8 @@ pub fn hash_of(clause: &[u16]) -> u64
     ensures { result ≡ hash_of clause.now }
 {
     let mut h: u64 = 0;
-    let mut i = 0;
-    while i < clause.len() {
-        h = (h + clause[i] as u64) * 1640531527 % 4294967296;
-        i += 1;
+    for literal in clause {
+        h = (h + *literal as u64) * 1640531527 % 4294967296;
     }
     h
 }

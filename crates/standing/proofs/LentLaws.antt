@@ -4,18 +4,17 @@ use mathlib.Core.Path.{◌≡◌, refl, sym, ap, ◌∙◌}
 use mathlib.Core.Bool.{Bool, true}
 use mathlib.Core.List.{List}
 use Prim.Native.Nat.{ℕ}
-use native.Mathlib.Omega.{arith}
 use borrow.Author.Tests.{eq-eqb, eqb-true}
 use lib.Dec.{eqb}
 use lib.ListN.{length, length-replicate}
-use Rattle.judging.specs.declared.Asked.TheVariants as said
+use Rattle.std.specs.Prelude.{Ok, Err}
+use Rattle.judging.specs.declared.Unfit.TheVariants.{WrongLength}
 use Rattle.meaning.specs.Formula.{Formula}
 use Rattle.meaning.specs.WellFormed.{well_formed, fits}
 use Rattle.table.specs.Table.{table_length, table_of, counts_of, decode, empty_formula, Holds}
 use Rattle.table.specs.Lent.{named, right_lengths}
-use Rattle.judging.specs.Check.{layout_holds, good_table, asked}
+use Rattle.judging.specs.Check.{layout_holds, good_table, Asked, asked}
 use Rattle.table.specs.declared.Counts.{Counts}
-use Rattle.judging.specs.declared.Asked.{Asked}
 use Rattle.apply.specs.Applied.{Lends, Lent}
 use Rattle.standing.specs.Standing.{formula_in, first_for, second_for}
 use Rattle.meaning.proofs.Basics.{by_cases, and_l, and_r, and_i}
@@ -26,14 +25,14 @@ use Rattle.judging.proofs.GoodLaws.{holds-true, true-holds}
 use Rattle.writer.proofs.RoundTrip.{given-good, good-given}
 
 -- Before: the table that the record names holds a well formed formula, and both have the right length ----------
-module _ (a b : List ℕ) (c : Counts) (s : Asked) (q : s ≡ asked a b c) (g : s ≡ said.Given) where
+module _ (a b : List ℕ) (c : Counts) (s : Asked) (q : s ≡ asked a b c) (g : s ≡ Ok tt) where
   pub right : right_lengths a b ≡ true
   unfolding asked
   right =
       by_cases (right_lengths a b) (λ l. l)
       (λ l.
-      let z : said.Given ≡ said.WrongLength = sym g ∙ q ∙ rw l in
-      let w : ◌≡◌ {A = ℕ} 0 1 = cc in absurd (omega arith))
+      let z : ◌≡◌ {A = Asked} (Ok tt) (Err WrongLength) = sym g ∙ q ∙ rw l in
+      cc)
 
   good : good_table (named a b c) c ≡ true
   good = given-good a b c (sym q ∙ g)
@@ -83,5 +82,5 @@ module _ (ψ : Formula) (side : Bool) where
           and_i (layout_holds t c) (well_formed (decode t c)) (holds-true (holds-decoded stands-holds)) (ap well_formed stands-formula ∙ w)
 
       -- a call that gets them is not refused for them
-      pub stands-given : asked (first_for side ψ) (second_for side ψ) (counts_of ψ side) ≡ said.Given
+      pub stands-given : asked (first_for side ψ) (second_for side ψ) (counts_of ψ side) ≡ Ok tt
       stands-given = good-given (first_for side ψ) (second_for side ψ) (counts_of ψ side) stands-right stands_good

@@ -2,7 +2,7 @@
 ghost use Rattle.std.specs.Prelude.{◌≡◌};
 ghost use Rattle.judging.specs.Check.{asked, asked_number, literals_part};
 
-use judging::{Asked, literals_answer, literals_part};
+use judging::{Unfit, literals_answer, literals_part};
 use table::Counts;
 
 // The literals, as a part of one of the two tables; an empty part of the first where the call is refused. Any tables, any record.
@@ -17,8 +17,8 @@ pub fn literals_number(first: &[u16], second: &[u16], c: Counts) -> u8
     ensures { result ≡ asked_number (asked first.now second.now c) }
 {
     match literals_answer(first, second, c) {
-        Asked::Given => 0,
-        Asked::WrongLength => 1,
-        Asked::Malformed => 2,
+        Ok(()) => 0,
+        Err(Unfit::WrongLength) => 1,
+        Err(Unfit::Malformed) => 2,
     }
 }

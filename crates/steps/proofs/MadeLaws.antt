@@ -16,10 +16,8 @@ use Rattle.rules.specs.Step.{permitted, raw_of, result_of}
 use Rattle.table.specs.Answer.{Built}
 use Rattle.table.specs.Pending.{in_range}
 use Rattle.table.specs.declared.Counts.{Counts}
-use Rattle.table.specs.declared.Pushed.{Pushed}
+use Rattle.std.specs.Prelude.{Option, Some, None}
 use Rattle.permits.specs.Choices.{pure_true, strengthening_of, replacing, replacement_of}
-use Rattle.permits.specs.declared.Strengthens.{Strengthens}
-use Rattle.permits.specs.declared.Strengthens.TheVariants.{By, No}
 use Rattle.permits.specs.declared.Replacement.{Replacement}
 use Rattle.recipes.specs.Recipe.{remade}
 use Rattle.rebuilds.specs.Given.{Given}
@@ -52,7 +50,7 @@ new-range φ a b r p =
     (λ e. rw e (range-opposite (get_or x 1 0) y.1))
 
 -- The results --------------------------------------------------------------------------------------------------------
-module _ {φ : Formula} {source : List ℕ} {c : Counts} {ranks : List ℕ} (g : Given φ source c ranks) {s : Bool} {r : Pushed} {t : List ℕ} where
+module _ {φ : Formula} {source : List ℕ} {c : Counts} {ranks : List ℕ} (g : Given φ source c ranks) {s : Bool} {r : Option Counts} {t : List ℕ} where
   pub assigned : (l v o : ℕ) → v ≡ l / 2 → o ≡ opposite l → Built (tidied (remade (Without l) (Drop o) v φ)) s r t → Built (tidied (becomes_true l φ)) s r t
   unfolding var
   assigned l v o d e k = rw (d, remade-true φ l o g.well g.holds.fitting e) at k
@@ -76,19 +74,19 @@ module _ {φ : Formula} {source : List ℕ} {c : Counts} {ranks : List ℕ} (g :
       (rw (d, e, remade-replace φ (replacement_of φ a).old (replacement_of φ a).new g.well g.holds.fitting (new-range φ a b (in-range φ g.well g.holds.fitting) p)) at k)
 
 -- where strengthening is permitted there is a literal
-module _ (φ : Formula) (a b : ℕ) (p : permitted φ strengthen a b ≡ true) (y : Strengthens) (is : y ≡ strengthening_of φ a b) where
-  by-is : y ≡ By (strengthen_lit φ a b)
+module _ (φ : Formula) (a b : ℕ) (p : permitted φ strengthen a b ≡ true) (y : Option ℕ) (is : y ≡ strengthening_of φ a b) where
+  by-is : y ≡ Some (strengthen_lit φ a b)
   unfolding strengthening_of permitted
   by-is = is ∙ rw p
 
-  pub strengthen-made : {source : List ℕ} {c : Counts} {ranks : List ℕ} → Given φ source c ranks → {s : Bool} {r : Pushed} {t : List ℕ} (l o : ℕ) → y ≡ By l → o ≡ opposite l → Built (tidied (remade All (DropAt b o) 0 φ)) s r t → Built (result_of φ strengthen a b) s r t
+  pub strengthen-made : {source : List ℕ} {c : Counts} {ranks : List ℕ} → Given φ source c ranks → {s : Bool} {r : Option Counts} {t : List ℕ} (l o : ℕ) → y ≡ Some l → o ≡ opposite l → Built (tidied (remade All (DropAt b o) 0 φ)) s r t → Built (result_of φ strengthen a b) s r t
   unfolding result_of raw_of
   strengthen-made {source} {c} {ranks} g {s} {r} {t} l o e d k =
-      let q : By l ≡ By (strengthen_lit φ a b) = sym e ∙ by-is in
+      let q : Some l ≡ Some (strengthen_lit φ a b) = sym e ∙ by-is in
       let m : l ≡ strengthen_lit φ a b = cc in
       rw (remade-strip φ a b o g.well g.holds.fitting (d ∙ ap opposite m)) at k
 
-  pub strengthen-never : {A : Type 0} → y ≡ No → A
+  pub strengthen-never : {A : Type 0} → y ≡ None → A
   strengthen-never {A} e =
-      let q : No ≡ By (strengthen_lit φ a b) = sym e ∙ by-is in
+      let q : None ≡ Some (strengthen_lit φ a b) = sym e ∙ by-is in
       let z : ◌≡◌ {A = ℕ} 0 1 = cc in absurd (omega arith)

@@ -1,5 +1,5 @@
 // Whether the step that a call names is permitted.
-ghost use Rattle.std.specs.Prelude.{◌≡◌, length};
+ghost use Rattle.std.specs.Prelude.{◌≡◌};
 ghost use Rattle.meaning.specs.Formula.{Formula};
 ghost use Rattle.table.specs.Table.{Held};
 ghost use Rattle.rules.specs.Simplify.{strengthen_permitted};
@@ -8,31 +8,25 @@ ghost use Rattle.rebuilds.specs.Given.{Given};
 ghost use Rattle.steps.specs.Decide.{call_permitted};
 
 use permits::{
-    Call, Strengthens, equality_permitted, expand_permitted, pure_permitted, resolve_permitted,
+    Call, equality_permitted, expand_permitted, pure_permitted, resolve_permitted,
     strengthening_of, subsume_permitted, unit_permitted,
 };
-use table::Counts;
+use table::{Counts, Ranks};
 
 // Whether clause a strengthens clause b.
-fn strengthen_permitted(source: &[u16], c: Counts, ranks: &[u16], a: usize, b: usize) -> bool
+fn strengthen_permitted(source: &[u16], c: Counts, ranks: &Ranks, a: usize, b: usize) -> bool
     requires held { Held source.now c }
-    requires ranks_len { length ranks.now ≡ 1024 }
     ensures { (φ : Formula) → Given φ source.now c ranks.now → result ≡ strengthen_permitted φ a b }
 {
-    match strengthening_of(source, c, ranks, a, b) {
-        Strengthens::By(_) => true,
-        Strengthens::No => false,
-    }
+    strengthening_of(source, c, ranks, a, b).is_some()
 }
 
-// A bad entry permits nothing.
-pub fn is_permitted(source: &[u16], c: Counts, ranks: &[u16], call: Call) -> bool
+// Whether the step is permitted.
+pub fn is_permitted(source: &[u16], c: Counts, ranks: &Ranks, call: Call) -> bool
     requires held { Held source.now c }
-    requires ranks_len { length ranks.now ≡ 1024 }
     ensures { (φ : Formula) → Given φ source.now c ranks.now → result ≡ call_permitted φ (called call) }
 {
     match call {
-        Call::Bad => false,
         Call::Unit(a) => unit_permitted(source, c, a),
         Call::Pure(a) => pure_permitted(source, c, ranks, a),
         Call::Subsume(a, b) => subsume_permitted(source, c, a, b),

@@ -8,20 +8,20 @@ ghost use Rattle.rules.specs.Step.{permitted, result_of};
 ghost use Rattle.table.specs.Answer.{Built};
 ghost use Rattle.rebuilds.specs.Given.{Given, Begun};
 
-use permits::{Strengthens, pure_literal, replacement_of, strengthening_of, unit_literal};
+use permits::{pure_literal, replacement_of, strengthening_of, unit_literal};
 use rebuilds::rebuild;
 use recipes::{Turn, Which};
-use table::{Counts, Pushed, flip};
+use table::{Counts, Ranks, Scratch, flip};
 
 // The literal becomes true.
 fn assign_into(
     source: &[u16],
     c: Counts,
     target: &mut [u16],
-    scratch: &mut [u16],
-    ranks: &mut [u16],
+    scratch: &mut Scratch,
+    ranks: &mut Ranks,
     literal: u16,
-) -> Pushed
+) -> Option<Counts>
     requires { Begun source.now c target.old scratch.old ranks.old }
     ensures { (φ : Formula) → Given φ source.now c ranks.old → Built (tidied (becomes_true literal φ)) (not c.second) result target.new }
 {
@@ -42,10 +42,10 @@ pub fn unit_into(
     source: &[u16],
     c: Counts,
     target: &mut [u16],
-    scratch: &mut [u16],
-    ranks: &mut [u16],
+    scratch: &mut Scratch,
+    ranks: &mut Ranks,
     a: usize,
-) -> Pushed
+) -> Option<Counts>
     requires { Begun source.now c target.old scratch.old ranks.old }
     ensures { (φ : Formula) → Given φ source.now c ranks.old → Built (result_of φ unit a 0) (not c.second) result target.new }
 {
@@ -58,10 +58,10 @@ pub fn pure_into(
     source: &[u16],
     c: Counts,
     target: &mut [u16],
-    scratch: &mut [u16],
-    ranks: &mut [u16],
+    scratch: &mut Scratch,
+    ranks: &mut Ranks,
     a: usize,
-) -> Pushed
+) -> Option<Counts>
     requires { Begun source.now c target.old scratch.old ranks.old }
     ensures { (φ : Formula) → Given φ source.now c ranks.old → permitted φ pure a 0 ≡ true → Built (result_of φ pure a 0) (not c.second) result target.new }
 {
@@ -74,11 +74,11 @@ pub fn subsume_into(
     source: &[u16],
     c: Counts,
     target: &mut [u16],
-    scratch: &mut [u16],
-    ranks: &mut [u16],
+    scratch: &mut Scratch,
+    ranks: &mut Ranks,
     a: usize,
     b: usize,
-) -> Pushed
+) -> Option<Counts>
     requires { Begun source.now c target.old scratch.old ranks.old }
     ensures { (φ : Formula) → Given φ source.now c ranks.old → Built (result_of φ subsume a b) (not c.second) result target.new }
 {
@@ -99,29 +99,25 @@ pub fn strengthen_into(
     source: &[u16],
     c: Counts,
     target: &mut [u16],
-    scratch: &mut [u16],
-    ranks: &mut [u16],
+    scratch: &mut Scratch,
+    ranks: &mut Ranks,
     a: usize,
     b: usize,
-) -> Pushed
+) -> Option<Counts>
     requires { Begun source.now c target.old scratch.old ranks.old }
     ensures { (φ : Formula) → Given φ source.now c ranks.old → permitted φ strengthen a b ≡ true → Built (result_of φ strengthen a b) (not c.second) result target.new }
 {
-    match strengthening_of(source, c, ranks, a, b) {
-        Strengthens::By(l) => {
-            rebuild(
-                source,
-                c,
-                0,
-                target,
-                Which::All,
-                Turn::DropAt(b, flip(l)),
-                scratch,
-                ranks,
-            )
-        }
-        Strengthens::No => Pushed::Full,
-    }
+    let l = strengthening_of(source, c, ranks, a, b)?;
+    rebuild(
+        source,
+        c,
+        0,
+        target,
+        Which::All,
+        Turn::DropAt(b, flip(l)),
+        scratch,
+        ranks,
+    )
 }
 
 // 5. The right-hand variable of the pair is replaced.
@@ -129,11 +125,11 @@ pub fn equality_into(
     source: &[u16],
     c: Counts,
     target: &mut [u16],
-    scratch: &mut [u16],
-    ranks: &mut [u16],
+    scratch: &mut Scratch,
+    ranks: &mut Ranks,
     a: usize,
     b: usize,
-) -> Pushed
+) -> Option<Counts>
     requires { Begun source.now c target.old scratch.old ranks.old }
     ensures { (φ : Formula) → Given φ source.now c ranks.old → permitted φ equality a b ≡ true → Built (result_of φ equality a b) (not c.second) result target.new }
 {

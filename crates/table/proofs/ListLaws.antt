@@ -1,36 +1,13 @@
 -- Laws of lists: parts, tails and loops that write.
 -- Assumes nothing.
-use Prim.Native.Nat.{ℕ, zero, suc, ◌+◌, ◌-◌, ◌≤◌, ◌<◌}
-use mathlib.Core.Path.{◌≡◌, sym, ap, ◌∙◌}
+use Prim.Native.Nat.{ℕ, zero, suc, ◌+◌, ◌-◌, ◌≤◌}
+use mathlib.Core.Path.{◌≡◌, ap, ◌∙◌}
 use mathlib.Core.List.{List, [], ◌∷◌, ◌++◌, append-nil}
 use lib.ListN.{length, get_or, take, drop, set, replicate, length-drop, drop_of_length-le}
-use lib.Seq.{drop-cons, take-suc, set_at, append_snoc, length-take-le, take_all, take-append-add, drop-append-add, get_or-append-add}
+use lib.Seq.{take_all, take-append-add, drop-append-add, get_or-append-add}
 use borrow.Rule.Slice.PartMut.{put_mid}
-use borrow.Author.Fill.{fill_more}
 use native.Mathlib.Omega.{arith}
-use native.Mathlib.Nat.{le_of_lt, zero-add, suc-add, sub-zero, zero-sub, suc-sub-suc}
-use native.Mathlib.Numerals.{add-one}
-
--- ---- a loop that copies s over the front of d, an element a turn
-pub front-next : (s d : List ℕ) (i : ℕ) → i < length s → i < length d → set (take i s ++ drop i d) i (get_or s i 0) ≡ take (i + 1) s ++ drop (i + 1) d
-front-next s d i h k =
-    ap (λ (r : List ℕ). set (take i s ++ r) i (get_or s i 0)) (drop-cons d i 0 k)
-    ∙ set_at (take i s) (get_or d i 0) (drop (suc i) d) (get_or s i 0) i (length-take-le i s (le_of_lt h))
-    ∙ sym (append_snoc (take i s) (get_or s i 0) (drop (suc i) d))
-    ∙ ap (λ (r : List ℕ). r ++ drop (suc i) d) (sym (take-suc s i 0 h))
-    ∙ ap (λ (k : ℕ). take k s ++ drop k d) (sym (add-one i))
-
-pub front-done : (s d : List ℕ) (i : ℕ) → i ≤ length s → length s ≤ i → take i s ++ drop i d ≡ s ++ drop (length s) d
-front-done s d i h k =
-    let e : i ≡ length s = omega arith in
-    ap (λ (r : List ℕ). r ++ drop i d) (take_all i s k) ∙ ap (λ (n : ℕ). s ++ drop n d) e
-
--- the same, from a loop's invariant
-pub front-turn : (s d t : List ℕ) (i : ℕ) → t ≡ take i s ++ drop i d → i < length s → i < length d → set t i (get_or s i 0) ≡ take (i + 1) s ++ drop (i + 1) d
-front-turn s d t i e h k = rw e (front-next s d i h k)
-
-pub front-end : (s d t : List ℕ) (i : ℕ) → t ≡ take i s ++ drop i d → i ≤ length s → length s ≤ i → t ≡ s ++ drop (length s) d
-front-end s d t i e h k = e ∙ front-done s d i h k
+use native.Mathlib.Nat.{zero-add, suc-add, sub-zero, zero-sub, suc-sub-suc}
 
 -- ---- what stands behind a first part of n numbers
 module _ {A : Type 0} where
@@ -69,10 +46,6 @@ tail-put xs ys a = ap (λ (r : List ℕ). take a xs ++ (ys ++ r)) (tail-post xs 
 pub tail_written : (xs s ys : List ℕ) (a : ℕ) → ys ≡ s ++ drop (length s) (take (length xs - a) (drop a xs)) → put_mid a (length xs - a) xs ys ≡ take a xs ++ (s ++ drop (length s) (drop a xs))
 tail_written xs s ys a e =
     tail-put xs ys a ∙ ap (λ (r : List ℕ). take a xs ++ r) e ∙ ap (λ (r : List ℕ). take a xs ++ (s ++ drop (length s) r)) (tail-mid xs a)
-
--- ---- a loop that fills with zeros
-pub fill-turn : (t d : List ℕ) (i : ℕ) → t ≡ replicate i 0 ++ drop i d → i < length d → set t i 0 ≡ replicate (i + 1) 0 ++ drop (i + 1) d
-fill-turn t d i e h = rw e (fill_more i 0 d h)
 
 pub fill_end : (t d : List ℕ) (i n : ℕ) → t ≡ replicate i 0 ++ drop i d → length d ≤ i → i ≡ n → t ≡ replicate n 0
 fill_end t d i n e h k =

@@ -2,8 +2,8 @@
 -- after it the negated one.
 -- Assumes nothing.
 use Prim.Native.Nat.{ℕ, ◌+◌, ◌-◌, ◌%◌, ◌≤◌, ◌<◌}
-use mathlib.Core.Path.{◌≡◌, refl, sym, ap, ◌∙◌, subst}
-use mathlib.Core.Bool.{Bool, true, false, not}
+use mathlib.Core.Path.{◌≡◌, sym, ap, ◌∙◌}
+use mathlib.Core.Bool.{true, false}
 use mathlib.Core.List.{List, [], ◌∷◌, ◌++◌}
 use native.Mathlib.Omega.{arith}
 use lib.Dec.{eqb}
@@ -13,8 +13,8 @@ use Rattle.meaning.specs.Formula.{opposite}
 use Rattle.meaning.specs.Tidy.{insert_new}
 use Rattle.table.specs.Insert.{count_below}
 use Rattle.table.specs.Pending.{Pends}
-use Rattle.table.specs.declared.Pending.{Pending}
-use Rattle.meaning.proofs.Basics.{by_cases, eqb-true, eqb-false, eqb-self, eqb-ne}
+use Rattle.std.specs.Prelude.{Option, Some, None}
+use Rattle.meaning.proofs.Basics.{by_cases, eqb-true, eqb-false}
 use Rattle.table.proofs.TestLaws.{flip-even, flip-odd}
 use Rattle.table.proofs.PendingLaws.{put-there, put_other, put-room, put-new}
 use Rattle.table.proofs.RisingLaws.{count_next}
@@ -32,39 +32,31 @@ place-of s l p e out =
     by-phase l (λ a b. e ∙ ap (count_below s) (sym a))
     (λ a b. e ∙ sym (count_next s (l - l % 2) out) ∙ ap (count_below s) (sym a))
 
-module _ {raw s : List ℕ} {p : Pending} (h : Pends raw s p) (one : p.both ≡ false) (l : ℕ) (lo : 2 ≤ l) (hi : l < 2048) where
-  abbrev now : List ℕ
-  now = take p.size s
+module _ {raw s : List ℕ} {p : Option ℕ} (h : Pends raw s p) (n : ℕ) (one : p ≡ Some n) (l : ℕ) (lo : 2 ≤ l) (hi : l < 2048) where
+  -- the plain literal is there: it is the literal itself, or its opposite
+  pub put-plain : has (l - l % 2) (take n s) ≡ true → l ≡ l - l % 2 → Pends (raw ++ (l ∷ [])) s (Some n)
+  put-plain q e = put-there h l lo hi n one (rw (← e) at q)
 
-  -- x is there: the literal itself, or its opposite
-  same-there : (x : ℕ) → l ≡ x → has x now ≡ true → Pends (raw ++ (l ∷ [])) s (record { size = p.size; both = not (eqb l x) })
-  same-there x e q =
-      rw (← e, eqb-self l)
-      (subst (λ (b : Bool). Pends (raw ++ (l ∷ [])) s (record { size = p.size; both = b })) one (put-there h l lo hi one (rw (← e) at q)))
+  pub put-plain-other : has (l - l % 2) (take n s) ≡ true → (l ≡ l - l % 2 → ⊥) → Pends (raw ++ (l ∷ [])) s None
+  put-plain-other q e = by-phase l (λ a b. absurd (e a)) (λ a b. put_other h l lo hi n one (rw b at q))
 
-  other-there : (x : ℕ) → (l ≡ x → ⊥) → x ≡ opposite l → has x now ≡ true
-      → Pends (raw ++ (l ∷ [])) s (record { size = p.size; both = not (eqb l x) })
-  other-there x n e q = rw (eqb-ne l x n) (put_other h l lo hi one _ refl (rw e at q))
+  -- so is the negated one
+  pub put-negated : has (l - l % 2 + 1) (take n s) ≡ true → l ≡ l - l % 2 + 1 → Pends (raw ++ (l ∷ [])) s (Some n)
+  put-negated q e = put-there h l lo hi n one (rw (← e) at q)
 
-  pub put-plain : has (l - l % 2) now ≡ true → Pends (raw ++ (l ∷ [])) s (record { size = p.size; both = not (eqb l (l - l % 2)) })
-  put-plain q =
-      by-phase l (λ a b. same-there (l - l % 2) a q) (λ a b. other-there (l - l % 2) (λ e. omega arith) b q)
-
-  pub put-negated : has (l - l % 2 + 1) now ≡ true → Pends (raw ++ (l ∷ [])) s (record { size = p.size; both = not (eqb l (l - l % 2 + 1)) })
-  put-negated q =
-      by-phase l (λ a b. other-there (l - l % 2 + 1) (λ e. omega arith) b q) (λ a b. same-there (l - l % 2 + 1) a q)
+  pub put-negated-other : has (l - l % 2 + 1) (take n s) ≡ true → (l ≡ l - l % 2 + 1 → ⊥) → Pends (raw ++ (l ∷ [])) s None
+  put-negated-other q e = by-phase l (λ a b. put_other h l lo hi n one (rw b at q)) (λ a b. absurd (e a))
 
   -- neither is there
-  module _ (out : has (l - l % 2) now ≡ false) (free : has (l - l % 2 + 1) now ≡ false) where
-    pub put-out : has l now ≡ false
+  module _ (out : has (l - l % 2) (take n s) ≡ false) (free : has (l - l % 2 + 1) (take n s) ≡ false) where
+    pub put-out : has l (take n s) ≡ false
     put-out = by-phase l (λ a b. rw (← a) at out) (λ a b. rw (← a) at free)
 
-    opposite-out : has (opposite l) now ≡ false
+    opposite-out : has (opposite l) (take n s) ≡ false
     opposite-out = by-phase l (λ a b. rw b at free) (λ a b. rw b at out)
 
-    pub put-within : p.size < length s
-    put-within = omega (arith, h.room, put-room h l lo hi one put-out opposite-out)
+    pub put-within : n < length s
+    put-within = omega (arith, h.room, put-room h l lo hi n one put-out opposite-out)
 
-    pub put-more : (s' : List ℕ) → length s' ≡ length s → take (p.size + 1) s' ≡ insert_new l now
-        → Pends (raw ++ (l ∷ [])) s' (record { size = p.size + 1; both = false })
-    put-more s' e d = put-new h l lo hi one put-out opposite-out s' e d
+    pub put-more : (s' : List ℕ) → length s' ≡ length s → take (n + 1) s' ≡ insert_new l (take n s) → Pends (raw ++ (l ∷ [])) s' (Some (n + 1))
+    put-more s' e d = put-new h l lo hi n one put-out opposite-out s' e d

@@ -12,12 +12,10 @@ use Rattle.meaning.specs.WellFormed.{good_prefix}
 use Rattle.table.specs.Table.{table_of, counts_of, empty_formula, with_raw, with_variable, Held}
 use Rattle.table.specs.Answer.{Became}
 use Rattle.table.specs.Ranks.{ranks_of, rankable, good_entries, small, Ranked}
-use Rattle.table.specs.Pending.{empty_pending, Pended}
-use Rattle.table.specs.declared.Pending.{Pending}
+use Rattle.table.specs.Pending.{Pended}
 use Rattle.table.specs.Ready.{Ready}
 use Rattle.table.specs.declared.Counts.{Counts}
-use Rattle.table.specs.declared.Pushed.{Pushed}
-use Rattle.table.specs.declared.Pushed.TheVariants.{Done, Full}
+use Rattle.std.specs.Prelude.{Option, Some, None}
 use Rattle.meaning.proofs.Parts.{room_of}
 use Rattle.meaning.proofs.Prefix.{good-snoc}
 use Rattle.table.proofs.HoldLaws.{held, count-variables, empty_holds}
@@ -38,7 +36,7 @@ module _ {t ranks : List ℕ} {c : Counts} (a : Ready t ranks c) where
   ready-ranks = ap length a.ranked ∙ length-ranks a.formula.prefix
 
   -- an answer that leaves the table as it was
-  pub ready-full : (ψ : Formula) (s : Bool) (r : Pushed) (t' : List ℕ) → Became a.formula ψ s r t' → r ≡ Full → Ready t' ranks c
+  pub ready-full : (ψ : Formula) (s : Bool) (r : Option Counts) (t' : List ℕ) → Became a.formula ψ s r t' → r ≡ None → Ready t' ranks c
   ready-full ψ s r t' b e =
       record {
         formula = a.formula;
@@ -48,7 +46,7 @@ module _ {t ranks : List ℕ} {c : Counts} (a : Ready t ranks c) where
       }
 
   -- a raw clause more
-  pub ready-raw : (raw : List ℕ) (s : Bool) (r : Pushed) (t' : List ℕ) → Became a.formula (with_raw a.formula raw) s r t' → (d : Counts) → r ≡ Done d → Ready t' ranks d
+  pub ready-raw : (raw : List ℕ) (s : Bool) (r : Option Counts) (t' : List ℕ) → Became a.formula (with_raw a.formula raw) s r t' → (d : Counts) → r ≡ Some d → Ready t' ranks d
   unfolding with_raw
   ready-raw raw s r t' b d e =
       record {
@@ -63,7 +61,7 @@ module _ {t ranks : List ℕ} {c : Counts} (a : Ready t ranks c) where
     pub ready-new : mentions a.formula.prefix (var q) ≡ false
     ready-new = (rankable-is a.formula.prefix q new).2
 
-    module _ (s : Bool) (r : Pushed) (t' : List ℕ) (b : Became a.formula (with_variable a.formula q) s r t') (d : Counts) (e : r ≡ Done d) where
+    module _ (s : Bool) (r : Option Counts) (t' : List ℕ) (b : Became a.formula (with_variable a.formula q) s r t') (d : Counts) (e : r ≡ Some d) where
       pub ready-room : c.variables < 1023
       ready-room =
           omega (arith, count-variables a.holds, variables-more a.formula q, (room_of (with_variable a.formula q) (became-fits a.formula (with_variable a.formula q) s r t' b d e)).variables)
@@ -86,14 +84,14 @@ ranked-none r ranks h = h.table h.answer
 pub rankable-small : (p : List ℕ) (q : ℕ) → rankable p q ≡ true → q < 2048
 rankable-small p q h = small-below q (unfold small in (rankable-is p q h).1)
 
-pub pended-empty : (s : List ℕ) (p : Pending) → p ≡ empty_pending → length s ≡ 1023 → Pended s p
-pended-empty s p q e = pended (pends-empty s p q e)
+pub pended-empty : (s : List ℕ) → length s ≡ 1023 → Pended s (Some 0)
+pended-empty s e = pended (pends-empty s e)
 
 -- a table that something was to be added to
-module _ {t : List ℕ} {c : Counts} (h : Held t c) (ψ : Formula) (s : Bool) (r : Pushed) (t' : List ℕ) (b : Became h.formula ψ s r t') where
-  pub held-done : (d : Counts) → r ≡ Done d → Held t' d
+module _ {t : List ℕ} {c : Counts} (h : Held t c) (ψ : Formula) (s : Bool) (r : Option Counts) (t' : List ℕ) (b : Became h.formula ψ s r t') where
+  pub held-done : (d : Counts) → r ≡ Some d → Held t' d
   held-done d e = held (became-done h.formula ψ s r t' b d e)
 
-  pub held-full : r ≡ Full → Held t' c
+  pub held-full : r ≡ None → Held t' c
   held-full e =
       held (record { table = became-left h.formula ψ s r t' b e; counts = h.holds.counts; fitting = h.holds.fitting })

@@ -13,9 +13,11 @@ use Rattle.meaning.specs.Lists.{all_of, any_of, has}
 use Rattle.meaning.specs.Tidy.{insert_new, ascending}
 use Rattle.table.specs.Insert.{count_below}
 use Rattle.table.specs.Pending.{Pends}
-use Rattle.table.specs.declared.Pending.{Pending}
+use Rattle.std.specs.Prelude.{Option, Some}
 use Rattle.meaning.proofs.Basics.{by_cases, iff, false_of, and_l, and_r, and_i, or_l, or_r, or-il, or-ir, or_elim, eqb-self, eqb-true, eqb-eq, eqb-false}
 use Rattle.meaning.proofs.Lists.{all-le, all-has}
+use Rattle.std.proofs.lemmas.Grind.{get_or_default_zero}
+use Rattle.std.specs.List.Sorted.{IsPartitionedBy, IsPartitionPoint}
 use Rattle.table.specs.Rising.{rising}
 
 -- Insertion ----------------------------------------------------------------------------------------------------
@@ -55,8 +57,8 @@ ascending-rising [] = refl
 ascending-rising (l ∷ c) = insert-rising l (ascending c) (ascending-rising c)
 
 -- an open clause without both phases rises
-pub pends-rising : {raw s : List ℕ} {p : Pending} → Pends raw s p → p.both ≡ false → rising (take p.size s) ≡ true
-pends-rising {raw} h one = rw (h.sorted one) (ascending-rising raw)
+pub pends-rising : {raw s : List ℕ} {p : Option ℕ} → Pends raw s p → (n : ℕ) → p ≡ Some n → rising (take n s) ≡ true
+pends-rising {raw} h n one = rw (h.sorted n one) (ascending-rising raw)
 
 -- Places -------------------------------------------------------------------------------------------------------
 has-at : (s : List ℕ) (i : ℕ) → i < length s → has (get_or s i 0) s ≡ true
@@ -109,13 +111,6 @@ module _ (s : List ℕ) (p x : ℕ) (r : rising s ≡ true) (e : p ≡ count_bel
   stands-past h = sym (false_of (has x s) (λ q. omega (arith, (placed s x r q).0)))
 
 -- Halving ------------------------------------------------------------------------------------------------------
--- the place of x is from low to high
-pub record Between (s : List ℕ) (x low high : ℕ) : Type 0 where
-  pub order : low ≤ high
-  pub within : high ≤ length s
-  pub below : (i : ℕ) → i < low → get_or s i 0 < x
-  pub above : (i : ℕ) → high ≤ i → i < length s → x ≤ get_or s i 0
-
 count-is : (s : List ℕ) (x n : ℕ) → n ≤ length s → ((i : ℕ) → i < n → get_or s i 0 < x) → (n < length s → x ≤ get_or s n 0) → n ≡ count_below s x
 unfolding count_below
 count-is [] x n h b a = omega arith
@@ -124,31 +119,15 @@ count-is (y ∷ s) x (suc n) h b a =
     rw (lt-ltb y x (b 0 (omega arith)))
     (ap suc (count-is s x n (le_of_suc-le-suc h) (λ i k. b (suc i) (omega arith)) (λ k. a (omega arith))))
 
-pub between-all : (s : List ℕ) (x : ℕ) → Between s x 0 (length s)
-between-all s x =
-    record { order = omega arith; within = omega arith; below = λ i h. absurd (omega arith); above = λ i h k. absurd (omega arith) }
+-- no number below x stands behind one that is not
+pub rising-parted : (s : List ℕ) (x : ℕ) → rising s ≡ true → IsPartitionedBy (λ y. ltb y x) s
+rising-parted s x r i j d h k e =
+    let below : get_or s j 0 < x = omega (arith, get_or_default_zero s j d k, ltb-true (get_or s j d) x e) in
+    let order : get_or s i 0 ≤ get_or s j 0 =
+    by_cases (ltb i j) (λ t. let l : i < j = ltb-true i j t in omega (arith, rising-order s r i j l k))
+    (λ t. let l = ltb-false i j t in let q : i ≡ j = omega arith in omega (arith, ap (λ (n : ℕ). get_or s n 0) q)) in
+    lt-ltb (get_or s i d) x (omega (arith, get_or_default_zero s i d (omega arith)))
 
-module _ (s : List ℕ) (x low high : ℕ) (w : Between s x low high) where
-  pub between-end : high ≤ low → low ≡ count_below s x
-  between-end h = count-is s x low (omega (arith, w.order, w.within)) w.below (λ k. w.above low h k)
-
-  module _ (r : rising s ≡ true) (mid : ℕ) (l : low ≤ mid) (m : mid < high) where
-    pub between-up : get_or s mid 0 < x → Between s x (mid + 1) high
-    between-up h =
-        record {
-          order = omega arith;
-          within = w.within;
-          below = λ i k. by_cases (eqb i mid) (λ e. rw (eqb-true i mid e) h)
-              (λ e. let q = eqb-false i mid e in omega (arith, rising-order s r i mid (omega arith) (omega (arith, w.within))));
-          above = w.above;
-        }
-
-    pub between-down : x ≤ get_or s mid 0 → Between s x low mid
-    between-down h =
-        record {
-          order = l;
-          within = omega (arith, w.within);
-          below = w.below;
-          above = λ i k n. by_cases (eqb i mid) (λ e. rw (eqb-true i mid e) h)
-              (λ e. let q = eqb-false i mid e in omega (arith, rising-order s r mid i (omega arith) n));
-        }
+pub count-parted : (s : List ℕ) (x n : ℕ) → n ≤ length s → IsPartitionPoint (λ y. ltb y x ≡ true) (λ y. ltb y x ≡ false) s n → n ≡ count_below s x
+count-parted s x n h w =
+    count-is s x n h (λ i l. ltb-true (get_or s i 0) x (w.0 i 0 (omega arith) l)) (λ l. ltb-false (get_or s n 0) x (w.1 n 0 (omega arith) l))

@@ -57,13 +57,13 @@ module _ (ranks : List ℕ) (e l r : ℕ) (q : r ≡ rank_at ranks l) where
   stays-exists h = rw (is-even h)
 
 -- the rightmost existential, from the left: e is that of the literals so far, and x the next
-pub last_turn : (ranks c : List ℕ) (e i x : ℕ) → last_by ranks e (drop i c) ≡ last_by ranks 0 c → i < length c → x ≡ later_by ranks e (get_or c i 0) → last_by ranks x (drop (i + 1) c) ≡ last_by ranks 0 c
+pub last_turn : (ranks c : List ℕ) (e i x y : ℕ) → last_by ranks e (drop i c) ≡ y → i < length c → x ≡ later_by ranks e (get_or c i 0) → last_by ranks x (drop (i + 1) c) ≡ y
 unfolding last_by
-last_turn ranks c e i x inv h q = rw (q, add-one) (rw (drop-cons c i 0) at inv)
+last_turn ranks c e i x y inv h q = rw (q, add-one) (rw (drop-cons c i 0) at inv)
 
-pub last_end : (ranks c : List ℕ) (e i : ℕ) → last_by ranks e (drop i c) ≡ last_by ranks 0 c → length c ≤ i → e ≡ last_by ranks 0 c
+pub last_end : (ranks c : List ℕ) (e i y : ℕ) → last_by ranks e (drop i c) ≡ y → length c ≤ i → e ≡ y
 unfolding last_by
-last_end ranks c e i inv h = rw (drop_of_length-le c {i = i} h) at inv
+last_end ranks c e i y inv h = rw (drop_of_length-le c {i = i} h) at inv
 
 -- the compacting loop ends with the reduced clause
 pub reduced-end : (ranks : List ℕ) (e : ℕ) (s₀ : List ℕ) (n : ℕ) (s : List ℕ) (i j : ℕ) → Compacted (stays_by ranks e) s₀ n s i j → n ≤ i → e ≡ last_by ranks 0 (take n s₀) → take j s ≡ reduced_by ranks (take n s₀)

@@ -13,7 +13,7 @@ use Rattle.meaning.specs.Lists.{has, part_of, same}
 use Rattle.meaning.specs.Formula.{opposite}
 use Rattle.meaning.proofs.Basics.{eqb-eq, eqb-ne}
 use Rattle.meaning.proofs.Literals.{odd-of, even-of}
-use Rattle.table.proofs.LoopLaws.{any_found, any-turn, any-end, all-fails, all-turn, all_end}
+use Rattle.table.proofs.LoopLaws.{any_found, any-turn, any-end, all-fails, all_end}
 
 module _ (l : ℕ) (s : List ℕ) (i : ℕ) (inv : has l s ≡ has l (drop i s)) where
   pub has-found : i < length s → get_or s i 0 ≡ l → true ≡ has l s
@@ -32,10 +32,6 @@ module _ (b a : List ℕ) (i : ℕ) (inv : part_of a b ≡ part_of (drop i a) b)
   pub part-fails : i < length a → has (get_or a i 0) b ≡ false → false ≡ part_of a b
   unfolding part_of
   part-fails h e = all-fails (λ l. has l b) 0 a i inv h e
-
-  pub part-turn : i < length a → has (get_or a i 0) b ≡ true → part_of a b ≡ part_of (drop (i + 1) a) b
-  unfolding part_of
-  part-turn h e = all-turn (λ l. has l b) 0 a i inv h e
 
   pub part_end : length a ≤ i → true ≡ part_of a b
   unfolding part_of

@@ -4,77 +4,70 @@ ghost use Rattle.meaning.specs.Formula.{Formula};
 ghost use Rattle.table.specs.Table.{empty_formula, table_of, with_clause, with_new_clause, with_variable, Holds, Held};
 ghost use Rattle.table.specs.Answer.{Became};
 
+use crate::Counts;
 use crate::parts::is_present;
-use crate::{Counts, Pushed};
 
 // Writes a clause at the front of a table's free tail.
 fn write_clause(tail: &mut [u16], clause: &[u16])
     requires { length clause.now ≤ length tail.old }
     ensures { tail.new ≡ clause.now ++ drop (length clause.now) tail.old }
 {
-    let mut i = 0;
-    while i < clause.len() {
-        tail[i] = clause[i];
-        i += 1;
-    }
+    let n = clause.len();
+    tail[..n].copy_from_slice(clause);
 }
 
 // The clause after the others, where the table has room for it.
-pub fn push_clause(t: &mut [u16], c: Counts, clause: &[u16]) -> Pushed
+pub fn push_clause(t: &mut [u16], c: Counts, clause: &[u16]) -> Option<Counts>
     requires { Held t.old c }
     ensures { (φ : Formula) → Holds φ t.old c → Became φ (with_clause φ clause.now) c.second result t.new }
 {
     let n = c.clauses;
     let m = c.literals;
     if Counts::CLAUSES <= n {
-        return Pushed::Full;
+        return None;
     }
     if Counts::LITERALS - m < clause.len() {
-        return Pushed::Full;
+        return None;
     }
     let at = Counts::LITERALS_AT + m;
     write_clause(&mut t[at..], clause);
     let e = Counts::ENDS_AT + n;
     t[e] = (m + clause.len()) as u16;
-    Pushed::Done(c.with_clause(clause.len()))
+    Some(c.with_clause(clause.len()))
 }
 
 // The clause after the others, unless an equal one is there.
-pub fn add_clause(t: &mut [u16], c: Counts, clause: &[u16]) -> Pushed
+pub fn add_clause(t: &mut [u16], c: Counts, clause: &[u16]) -> Option<Counts>
     requires { Held t.old c }
     ensures { (φ : Formula) → Holds φ t.old c → Became φ (with_new_clause φ clause.now) c.second result t.new }
 {
     if is_present(t, c, clause) {
-        return Pushed::Done(c);
+        return Some(c);
     }
     push_clause(t, c, clause)
 }
 
 // One more entry at the right end of the prefix. A variable over 1,023 does not fit.
-pub fn push_variable(t: &mut [u16], c: Counts, entry: u16) -> Pushed
+pub fn push_variable(t: &mut [u16], c: Counts, entry: u16) -> Option<Counts>
     requires { Held t.old c }
     ensures { (φ : Formula) → Holds φ t.old c → Became φ (with_variable φ entry) c.second result t.new }
 {
     let at = c.variables;
     if Counts::VARIABLES <= at {
-        return Pushed::Full;
+        return None;
     }
     if 2047 < entry {
-        return Pushed::Full;
+        return None;
     }
     t[at] = entry;
-    Pushed::Done(c.with_variable())
+    Some(c.with_variable())
 }
 
 // Zeroes a slice.
 pub fn clear(s: &mut [u16])
     ensures { s.new ≡ replicate (length s.old) 0 }
 {
-    let mut i = 0;
-    while i < s.len() {
-        s[i] = 0;
-        i += 1;
-    }
+    s.fill(0);
 }
 
 // All zero: the table of the empty formula.

@@ -11,17 +11,7 @@ pub fn place_in(s: &[u16], x: u16) -> usize
     requires { rising s.now ≡ true }
     ensures { result ≡ count_below s.now x }
 {
-    let mut low = 0;
-    let mut high = s.len();
-    while low < high {
-        let mid = low + (high - low) / 2;
-        if s[mid] < x {
-            low = mid + 1;
-        } else {
-            high = mid;
-        }
-    }
-    low
+    s.partition_point(|y| *y < x)
 }
 
 // Whether x is there, where p is its place.
@@ -41,11 +31,8 @@ pub fn insert_at(s: &mut [u16], m: usize, p: usize, x: u16)
     requires { (m < length s.old) × (has x (take m s.old) ≡ false) × (p ≡ count_below (take m s.old) x) }
     ensures { take (m + 1) s.new ≡ insert_new x (take m s.old) }
 {
-    let mut j = m;
-    while p < j {
-        let k = j - 1;
-        s[j] = s[k];
-        j = k;
+    for j in (p..m).rev() {
+        s[j + 1] = s[j];
     }
     s[p] = x;
 }

@@ -2,7 +2,6 @@
 #![tactic(auto)]
 
 ghost use Rattle.std.specs.Prelude.{◌≡◌, ◌+◌, ◌≤◌, ◌<◌, false};
-ghost use Rattle.table.specs.Pending.{empty_pending};
 ghost use Rattle.table.specs.Table.{empty_formula, counts_of, clause_more, variable_more};
 
 mod clauses;
@@ -17,7 +16,7 @@ pub use clauses::{add_clause, push_clause, push_variable, zero};
 pub use parts::{clause_at, first_equal, is_before, is_present};
 pub use ranks::{add_rank, is_new, rank_prefix};
 pub use raw::{add_raw, close_clause, put_clause, put_literal, tidy_in};
-pub use reduce::{all_stay, rank_of};
+pub use reduce::{all_stay, all_stay_by, last_by, rank_of, stays_by};
 pub use tests::{contains, equal, flip, part_of};
 
 // How much of a table is used, and which of the two lent tables it is.
@@ -62,10 +61,9 @@ impl Counts {
         ensures { result ≡ clause_more self size }
     {
         Self {
-            variables: self.variables,
             clauses: self.clauses + 1,
             literals: self.literals + size,
-            second: self.second,
+            ..self
         }
     }
 
@@ -79,28 +77,11 @@ impl Counts {
     }
 }
 
-// What comes of adding to a table.
-#[derive(Clone, Copy)]
-pub enum Pushed {
-    Done(Counts),
-    Full,
-}
+// The ranks of a prefix, by variable. Number 0 is no variable.
+pub type Ranks = [u16; 1024];
 
-// A raw clause on its way into the table: how many literals of the scratch are its own, and whether both phases of a variable were seen.
-#[derive(Clone, Copy)]
-pub struct Pending {
-    pub size: usize,
-    pub both: bool,
-}
+// Room for the literals of one clause, one of each variable at most.
+pub type Scratch = [u16; 1023];
 
-impl Pending {
-    // No literal yet.
-    pub fn empty() -> Self
-        ensures { result ≡ empty_pending }
-    {
-        Self {
-            size: 0,
-            both: false,
-        }
-    }
-}
+// A raw clause on its way into the table: how many literals of the scratch are its own; None once both phases of a variable were seen.
+pub type Pending = Option<usize>;

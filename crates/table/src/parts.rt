@@ -39,12 +39,10 @@ pub fn first_equal(t: &[u16], c: Counts, clause: &[u16], until: usize) -> usize
     ensures upper_bound { result ≤ until }
     ensures until_value { (φ : Formula) → Holds φ t.now c → ltb result until ≡ any_of (same clause.now) (take until φ.clauses) }
 {
-    let mut i = 0;
-    while i < until {
+    for i in 0..until {
         if equal(clause, clause_at(t, c, i)) {
             return i;
         }
-        i += 1;
     }
     until
 }

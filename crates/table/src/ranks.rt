@@ -1,13 +1,14 @@
-// The ranks of a prefix, in a lent slice of 1,024 numbers by variable: place and quantifier in one number.
+// The ranks of a prefix, in a lent array by variable: place and quantifier in one number.
 ghost use Rattle.std.specs.Prelude.{◌≡◌, ℕ, ◌≤◌, ◌<◌, false, List, [], ◌∷◌, ◌++◌, length};
 ghost use Rattle.meaning.specs.Formula.{var, mentions};
 ghost use Rattle.table.specs.Ranks.{ranks_of, rankable, Ranked};
 
+use crate::Ranks;
 use crate::clauses::clear;
 
 // One more entry at the right end of a prefix of n entries. Its variable is not there yet.
-pub fn add_rank(ranks: &mut [u16], n: usize, entry: u16)
-    requires { (length ranks.old ≡ 1024) × (n < 1023) × (entry < 2048) }
+pub fn add_rank(ranks: &mut Ranks, n: usize, entry: u16)
+    requires { (n < 1023) × (entry < 2048) }
     ensures { (p : List ℕ) → length p ≡ n → mentions p (var entry) ≡ false → ranks.old ≡ ranks_of p → ranks.new ≡ ranks_of (p ++ (entry ∷ [])) }
 {
     let v = (entry / 2) as usize;
@@ -15,16 +16,14 @@ pub fn add_rank(ranks: &mut [u16], n: usize, entry: u16)
 }
 
 // Zeroes the slice: the ranks of no prefix.
-fn no_ranks(ranks: &mut [u16])
-    requires { length ranks.old ≡ 1024 }
+fn no_ranks(ranks: &mut Ranks)
     ensures { ranks.new ≡ ranks_of [] }
 {
     clear(ranks);
 }
 
 // Whether the entry may be added: its variable is 1 to 1,023 and has no rank.
-pub fn is_new(ranks: &[u16], entry: u16) -> bool
-    requires { length ranks.now ≡ 1024 }
+pub fn is_new(ranks: &Ranks, entry: u16) -> bool
     ensures { (p : List ℕ) → ranks.now ≡ ranks_of p → result ≡ rankable p entry }
 {
     if entry < 2 {
@@ -38,20 +37,16 @@ pub fn is_new(ranks: &[u16], entry: u16) -> bool
 }
 
 // The ranks of a whole prefix, whatever the slice held; false where a variable is 0, over 1,023 or there twice.
-pub fn rank_prefix(prefix: &[u16], ranks: &mut [u16]) -> bool
-    requires { (length ranks.old ≡ 1024) × (length prefix.now ≤ 1023) }
+pub fn rank_prefix(prefix: &[u16], ranks: &mut Ranks) -> bool
+    requires { length prefix.now ≤ 1023 }
     ensures { Ranked prefix.now result ranks.new }
 {
     no_ranks(ranks);
-    let mut i = 0;
-    while i < prefix.len() {
-        let q = prefix[i];
-        if is_new(ranks, q) {
-            add_rank(ranks, i, q);
-        } else {
+    for (i, q) in prefix.iter().enumerate() {
+        if !is_new(ranks, *q) {
             return false;
         }
-        i += 1;
+        add_rank(ranks, i, *q);
     }
     true
 }

@@ -6,45 +6,20 @@ ghost use Rattle.meaning.specs.Formula.{opposite};
 pub fn contains(clause: &[u16], literal: u16) -> bool
     ensures { result ≡ has literal clause.now }
 {
-    let mut i = 0;
-    while i < clause.len() {
-        if clause[i] == literal {
-            return true;
-        }
-        i += 1;
-    }
-    false
+    clause.contains(&literal)
 }
 
 pub fn equal(a: &[u16], b: &[u16]) -> bool
     ensures { result ≡ same a.now b.now }
 {
-    if a.len() != b.len() {
-        return false;
-    }
-    let mut i = 0;
-    while i < a.len() {
-        if a[i] != b[i] {
-            return false;
-        }
-        i += 1;
-    }
-    true
+    a == b
 }
 
 // Whether every literal of a is in b.
 pub fn part_of(a: &[u16], b: &[u16]) -> bool
     ensures { result ≡ part_of a.now b.now }
 {
-    let mut i = 0;
-    while i < a.len() {
-        if contains(b, a[i]) {
-            i += 1;
-        } else {
-            return false;
-        }
-    }
-    true
+    a.iter().all(|l| contains(b, *l))
 }
 
 // The literal's opposite. Every number of 16 bits has one.

@@ -6,13 +6,13 @@ ghost use Rattle.table.specs.Pending.{Pended};
 ghost use Rattle.tables.specs.Going.{Going, StillReady, StillHeld};
 
 use crate::State;
-use crate::showing::{say, say_counts};
+use crate::showing::say_counts;
 use std::io;
-use table::{Counts, Pending, Pushed};
+use table::{Counts, Pending, Ranks, Scratch};
 
 // An empty table and its ranks, whatever they held.
-pub fn begin(t: &mut [u16], ranks: &mut [u16]) -> Counts
-    requires { (length t.old ≡ 11261) × (length ranks.old ≡ 1024) }
+pub fn begin(t: &mut [u16], ranks: &mut Ranks) -> Counts
+    requires { length t.old ≡ 11261 }
     ensures { Ready t.new ranks.new result }
 {
     table::zero(t);
@@ -21,34 +21,29 @@ pub fn begin(t: &mut [u16], ranks: &mut [u16]) -> Counts
 }
 
 // One entry more in the prefix, unless its variable is there.
-fn quantify(t: &mut [u16], c: Counts, ranks: &mut [u16], entry: u16) -> Counts
+fn quantify(t: &mut [u16], c: Counts, ranks: &mut Ranks, entry: u16) -> Counts
     requires { Ready t.old ranks.old c }
     ensures { Ready t.new ranks.new result }
 {
     if table::is_new(ranks, entry) {
-        let n = c.variables;
         match table::push_variable(t, c, entry) {
-            Pushed::Done(d) => {
-                table::add_rank(ranks, n, entry);
+            Some(d) => {
+                table::add_rank(ranks, c.variables, entry);
                 return d;
             }
-            Pushed::Full => {
-                return c;
-            }
+            None => return c,
         }
     }
     c
 }
 
-pub fn quantify_all(t: &mut [u16], c: Counts, ranks: &mut [u16], prefix: &[u16]) -> Counts
+pub fn quantify_all(t: &mut [u16], c: Counts, ranks: &mut Ranks, prefix: &[u16]) -> Counts
     requires { Ready t.old ranks.old c }
     ensures { Ready t.new ranks.new result }
 {
     let mut counts = c;
-    let mut i = 0;
-    while i < prefix.len() {
-        counts = quantify(t, counts, ranks, prefix[i]);
-        i += 1;
+    for entry in prefix {
+        counts = quantify(t, counts, ranks, *entry);
     }
     counts
 }
@@ -58,9 +53,9 @@ fn close(
     rt: &impl Print,
     t: &mut [u16],
     c: Counts,
-    scratch: &mut [u16],
+    scratch: &mut Scratch,
     p: Pending,
-    ranks: &[u16],
+    ranks: &Ranks,
 ) -> io::Result<Counts>
     requires ready { Ready t.old ranks.now c }
     requires pended { Pended scratch.old p }
@@ -68,12 +63,12 @@ fn close(
     ensures err { IfErr result (λ _. StillReady t.new ranks.now) }
 {
     match table::close_clause(t, c, scratch, p, ranks) {
-        Pushed::Done(d) => {
+        Some(d) => {
             say_counts(rt, d)?;
             Ok(d)
         }
-        Pushed::Full => {
-            say(rt, b"full\n")?;
+        None => {
+            println!(rt; "full")?;
             Ok(c)
         }
     }
@@ -84,54 +79,46 @@ fn take_number(
     rt: &impl Print,
     t: &mut [u16],
     s: State,
-    scratch: &mut [u16],
-    ranks: &[u16],
+    scratch: &mut Scratch,
+    ranks: &Ranks,
     x: u16,
 ) -> io::Result<State>
     requires { Going t.old ranks.now scratch.old s }
     ensures ok { IfOk result (λ r. Going t.new ranks.now scratch.new r) }
     ensures err { IfErr result (λ _. StillReady t.new ranks.now) }
 {
-    let c = s.counts;
-    let p = s.pending;
     if x < 2 {
-        let d = close(rt, t, c, scratch, p, ranks)?;
+        let counts = close(rt, t, s.counts, scratch, s.pending, ranks)?;
         return Ok(State {
-            counts: d,
-            pending: Pending::empty(),
+            counts,
+            pending: Some(0),
         });
     }
     if 2047 < x {
         return Ok(s);
     }
-    let q = table::put_literal(scratch, p, x);
-    Ok(State {
-        counts: c,
-        pending: q,
-    })
+    let pending = table::put_literal(scratch, s.pending, x);
+    Ok(State { pending, ..s })
 }
 
 pub fn add_all(
     rt: &impl Print,
     t: &mut [u16],
     c: Counts,
-    scratch: &mut [u16],
-    ranks: &[u16],
+    scratch: &mut Scratch,
+    ranks: &Ranks,
     numbers: &[u16],
 ) -> io::Result<Counts>
-    requires ready { Ready t.old ranks.now c }
-    requires scratch_len { length scratch.old ≡ 1023 }
+    requires { Ready t.old ranks.now c }
     ensures ok { IfOk result (λ d. Ready t.new ranks.now d) }
     ensures err { IfErr result (λ _. StillReady t.new ranks.now) }
 {
     let mut s = State {
         counts: c,
-        pending: Pending::empty(),
+        pending: Some(0),
     };
-    let mut i = 0;
-    while i < numbers.len() {
-        s = take_number(rt, t, s, scratch, ranks, numbers[i])?;
-        i += 1;
+    for x in numbers {
+        s = take_number(rt, t, s, scratch, ranks, *x)?;
     }
     Ok(s.counts)
 }
@@ -149,18 +136,14 @@ pub fn push_times(
     ensures err { IfErr result (λ _. StillHeld t.new) }
 {
     let mut counts = c;
-    let mut i = 0;
-    while i < times {
+    for _ in 0..times {
         match table::push_clause(t, counts, clause) {
-            Pushed::Done(d) => {
-                counts = d;
-            }
-            Pushed::Full => {
-                say(rt, b"full\n")?;
+            Some(d) => counts = d,
+            None => {
+                println!(rt; "full")?;
                 return Ok(counts);
             }
         }
-        i += 1;
     }
     Ok(counts)
 }

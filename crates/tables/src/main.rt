@@ -7,14 +7,15 @@ ghost use Rattle.table.specs.Table.{Held};
 ghost use Rattle.tables.specs.Going.{StillReady, StillHeld};
 
 use adding::{add_all, begin, push_times, quantify_all};
-use showing::{say, say_counts, say_good, say_literals};
+use showing::{say_counts, say_good, say_literals};
 use std::io;
-use table::{Counts, Pending};
+use table::{Counts, Pending, Ranks};
 
 mod adding;
 mod showing;
 
 // A formula on its way into a table: the counts so far, and the clause so far.
+// Kept: two values with names, of which Going of specs/ speaks; neither is a flag.
 #[derive(Clone, Copy)]
 pub struct State {
     pub counts: Counts,
@@ -22,8 +23,8 @@ pub struct State {
 }
 
 // Adds clauses to a formula `e 1 a 2 e 3 a 4`.
-fn build(rt: &impl Print, t: &mut [u16], ranks: &mut [u16]) -> io::Result<Counts>
-    requires { (length t.old ≡ 11261) × (length ranks.old ≡ 1024) }
+fn build(rt: &impl Print, t: &mut [u16], ranks: &mut Ranks) -> io::Result<Counts>
+    requires { length t.old ≡ 11261 }
     ensures ok { IfOk result (λ c. Ready t.new ranks.new c) }
     ensures err { IfErr result (λ _. StillReady t.new ranks.new) }
 {
@@ -50,21 +51,14 @@ fn damaged(rt: &impl Print, t: &mut [u16], c: Counts, at: usize, number: u16) ->
 
 // The same record, for the second table, and with a literal more.
 fn in_second(c: Counts) -> Counts {
-    Counts {
-        variables: c.variables,
-        clauses: c.clauses,
-        literals: c.literals,
-        second: true,
-    }
+    Counts { second: true, ..c }
 }
 
 fn one_literal_more(c: Counts) -> Counts {
     if c.literals < Counts::LITERALS {
         return Counts {
-            variables: c.variables,
-            clauses: c.clauses,
             literals: c.literals + 1,
-            second: c.second,
+            ..c
         };
     }
     c
@@ -86,12 +80,7 @@ fn damage_more(rt: &impl Print, t: &mut [u16], c: Counts) -> io::Result<()> {
 }
 
 // The literals from either table, and the two refusals.
-fn literals_of<'a>(
-    rt: &impl Print,
-    first: &'a [u16],
-    second: &'a [u16],
-    c: Counts,
-) -> io::Result<()> {
+fn literals_of(rt: &impl Print, first: &[u16], second: &[u16], c: Counts) -> io::Result<()> {
     say_literals(rt, first, second, c)?;
     say_literals(rt, first, second, in_second(c))?;
     say_literals(rt, second, first, in_second(c))?;
@@ -134,7 +123,7 @@ fn fill_up(
     let c = fill(rt, second, clause, times, last)?;
     say_counts(rt, push_times(rt, second, c, last, 1)?)?;
     if table::equal(first, second) {
-        say(rt, b"unchanged\n")?;
+        println!(rt; "unchanged")?;
     }
     Ok(())
 }

@@ -94,9 +94,6 @@ module _ (ranks : List ℕ) (e k o : ℕ) (cs : List (List ℕ)) (few : length c
 
     -- x is clause i, and b tells whether it has k
     module _ (x : List ℕ) (is : x ≡ get_or cs i []) {b : Bool} (tells : b ≡ has k x) where
-      pub thinning-without : b ≡ false → Thinning ranks e k o cs w (i + 1)
-      thinning-without n = past (λ f p. clash p (ap (has k) (sym is) ∙ sym tells ∙ n))
-
       pub thinning-flagged : i < length cs → b ≡ true → Thinning ranks e k o cs (raised w i) (i + 1)
       thinning-flagged h p = flagged h (ap (has k) (sym is) ∙ sym tells ∙ p)
 
@@ -124,9 +121,6 @@ module _ (ranks : List ℕ) (e k o : ℕ) (cs : List (List ℕ)) (few : length c
 
   -- x is clause i, and b tells whether it has k
   module _ (w m : List ℕ) (i : ℕ) (g : Going ranks e k o cs w m i) (x : List ℕ) (is : x ≡ get_or cs i []) {b : Bool} (tells : b ≡ has k x) where
-    pub going-without : b ≡ false → Going ranks e k o cs w m (i + 1)
-    going-without n = record { thinning = thinning-without ranks e k o cs few w i g.thinning x is tells n; standing = g.standing }
-
     module _ (h : i < length cs) where
       in_kept : i < 64 * length w
       in_kept = omega (arith, g.thinning.words)

@@ -1,4 +1,3 @@
-pub mod PlaceLaws
 pub mod FirmLaws
 pub mod ReadLaws
 pub mod GoingLaws

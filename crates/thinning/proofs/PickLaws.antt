@@ -1,17 +1,15 @@
 -- The clauses that a test picks are flagged, one after the other.
 -- Assumes nothing.
 use Prim.Native.Nat.{ℕ, ◌+◌, ◌*◌, ◌≤◌, ◌<◌}
-use mathlib.Core.Path.{◌≡◌, refl, sym, ap, ◌∙◌}
+use mathlib.Core.Path.{◌≡◌, refl, ap, ◌∙◌}
 use mathlib.Core.Bool.{Bool, true, false, cond}
 use mathlib.Core.List.{List, []}
 use lib.ListN.{length, get_or, replicate}
 use native.Mathlib.Omega.{arith}
 use borrow.Author.Count.{below_none, below_more}
-use Rattle.meaning.specs.Lists.{has}
-use Rattle.meaning.proofs.Basics.{clash}
 use Rattle.flags.specs.Flags.{flag, raised}
 use Rattle.flags.proofs.FlagLaws.{flag-none, flag-own, flag-other}
-use Rattle.thinning.specs.Thin.{Picks, Thinned}
+use Rattle.thinning.specs.Thin.{Picks}
 use Rattle.thinning.specs.Going.{Picking}
 use Rattle.thinning.proofs.GoingLaws.{zeros-length, raised-length}
 
@@ -55,11 +53,3 @@ module _ (f : List ℕ → Bool) (cs : List (List ℕ)) (few : length cs ≤ 204
 
     pub picking-end : length cs ≤ i → Picks f cs w
     picking-end h = record { each = λ j n. g.before j (omega arith) }
-
--- Where all clauses with k are flagged, none is left out.
-pub all-thinned : (ranks : List ℕ) (e k o : ℕ) (cs : List (List ℕ)) (w : List ℕ) → Picks (has k) cs w → Thinned ranks e k o cs w
-all-thinned ranks e k o cs w p =
-    record {
-      taken = λ j n f. sym (p.each j n) ∙ f;
-      left = λ j n f h. clash (p.each j n ∙ h) f;
-    }

@@ -24,6 +24,7 @@ use Rattle.meaning.proofs.Prefix.{bound-numbers}
 use Rattle.table.proofs.HoldLaws.{count-clauses, holds-bounds}
 use Rattle.table.proofs.DecodeLaws.{decode-holds}
 use Rattle.table.proofs.LoopLaws.{all_get_d}
+use Rattle.table.proofs.StayLaws.{small-below}
 use Rattle.thinning.specs.Going.{Readable, NextOf}
 
 -- The clauses of the source -------------------------------------------------------------------------------------------
@@ -47,6 +48,10 @@ module _ {source : List ℕ} {c : Counts} (r : Readable source c) where
   clause-small i n x is =
       let h = r.held.holds in
       ap (all_of small) (is r.held.formula h) ∙ all_get_d (all_of small) [] r.held.formula.clauses i (read_small h) (omega (arith, count-clauses h))
+
+-- x is an item of a clause
+pub small_item : (c : List ℕ) (k x : ℕ) → all_of small c ≡ true → k < length c → x ≡ get_or c k x → x < 2048
+small_item c k x a n e = small-below x (ap small e ∙ all_get_d small x c k a n)
 
 -- the opposite of a literal has a flag, too
 pub opposite-below : (l : ℕ) → l < 2048 → (r : ℕ) → r ≡ opposite l → r < 2048

@@ -9,46 +9,36 @@ ghost use Rattle.flags.specs.Flags.{raised};
 ghost use Rattle.thinning.specs.Others.{near_with, met_if};
 ghost use Rattle.thinning.specs.Going.{Readable};
 
+use crate::Flags;
 use crate::near::is_near_with;
+use crate::places::more_pass;
 use flags::raise;
-use table::{Counts, clause_at, contains};
+use table::{Counts, Ranks, clause_at, contains};
 
-// Fewer clauses than this, and all are flagged.
-const MANY: usize = 32;
+// More clauses than this are many. Where they are few, all are flagged.
+const FEW: usize = 31;
 
 // Whether few clauses have the literal. It only saves time.
 pub fn few_with(source: &[u16], c: Counts, literal: u16) -> bool
-    requires { Held source.now c }
+    requires { Readable source.now c }
 {
-    let mut n = 0;
-    let mut i = 0;
-    while i < c.clauses {
-        if MANY <= n {
-            return false;
-        }
-        if contains(clause_at(source, c, i), literal) {
-            n += 1;
-        }
-        i += 1;
-    }
-    n < MANY
+    !more_pass(source, c, FEW, |clause| contains(clause, literal))
 }
 
 // Raises the flags of a clause's literals.
-fn raise_all(words: &mut [u64], clause: &[u16])
-    requires { (length words.old ≡ 32) × (all_of small clause.now ≡ true) }
+fn raise_all(words: &mut Flags, clause: &[u16])
+    requires { all_of small clause.now ≡ true }
     ensures { words.new ≡ foldl raised words.old clause.now }
 {
-    let mut i = 0;
-    while i < clause.len() {
-        raise(words, clause[i] as usize);
-        i += 1;
+    for literal in clause {
+        raise(words, *literal as usize);
     }
 }
 
 // The same, where the clause has the literal and is near.
-fn raise_if(words: &mut [u64], literal: u16, place: u16, ranks: &[u16], clause: &[u16])
-    requires { (length words.old ≡ 32) × (length ranks.now ≡ 1024) × (all_of small clause.now ≡ true) }
+#[tactic(auto, unfolding(crate::specs::Others::met_if))]
+fn raise_if(words: &mut Flags, literal: u16, place: u16, ranks: &Ranks, clause: &[u16])
+    requires { all_of small clause.now ≡ true }
     ensures { words.new ≡ met_if (near_with ranks.now place literal) words.old clause.now }
 {
     if is_near_with(clause, literal, place, ranks) {
@@ -62,16 +52,13 @@ pub fn flag_met(
     c: Counts,
     literal: u16,
     place: u16,
-    ranks: &[u16],
-    words: &mut [u64],
+    ranks: &Ranks,
+    words: &mut Flags,
 )
     requires readable { Readable source.now c }
-    requires ranks_len { (length ranks.now ≡ 1024) × (length words.old ≡ 32) }
     ensures { (φ : Formula) → Holds φ source.now c → words.new ≡ foldl (met_if (near_with ranks.now place literal)) words.old φ.clauses }
 {
-    let mut i = 0;
-    while i < c.clauses {
+    for i in 0..c.clauses {
         raise_if(words, literal, place, ranks, clause_at(source, c, i));
-        i += 1;
     }
 }

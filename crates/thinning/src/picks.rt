@@ -1,19 +1,22 @@
 // Flags of the clauses that have a literal, and of those of them that are far.
-ghost use Rattle.std.specs.Prelude.{◌≡◌, ◌*◌, ◌<◌, true, cond, length, replicate};
-ghost use Rattle.meaning.specs.Lists.{has};
+ghost use Rattle.std.specs.Prelude.{ℕ, Bool, List, ◌≡◌, ◌*◌, ◌<◌, true, cond, length, replicate};
+ghost use Rattle.meaning.specs.Lists.{all_of, has};
 ghost use Rattle.meaning.specs.Formula.{Formula};
 ghost use Rattle.meaning.specs.WellFormed.{well_formed};
 ghost use Rattle.table.specs.Table.{decode, Holds, Held};
+ghost use Rattle.table.specs.Ranks.{small};
+ghost use Rattle.thinning.specs.Going.{Readable};
 ghost use Rattle.flags.specs.Flags.{raised};
 ghost use Rattle.thinning.specs.Thin.{Picks, far};
 
+use crate::Flags;
 use crate::near::is_far;
 use flags::raise;
-use table::{Counts, clause_at, contains};
+use table::{Counts, Ranks, clause_at, contains};
 
 // Flags clause i, where it is picked.
-fn flag_if(kept: &mut [u64], i: usize, picked: bool)
-    requires { i < 64 * length kept.old }
+fn flag_if(kept: &mut Flags, i: usize, picked: bool)
+    requires { i < 2048 }
     ensures { kept.new ≡ cond picked (raised kept.old i) kept.old }
 {
     if picked {
@@ -21,18 +24,26 @@ fn flag_if(kept: &mut [u64], i: usize, picked: bool)
     }
 }
 
+// Flags the clauses that pass a test.
+fn flag_each<F: Fn(&[u16]) -> bool>(source: &[u16], c: Counts, kept: &mut Flags, passes: F)
+    requires readable { Readable source.now c }
+    requires none { kept.old ≡ replicate 32 0 }
+    requires callable { (x : _) → all_of small x.now ≡ true → F.pre passes x }
+    ensures { (φ : Formula) (f : List ℕ → Bool) → Holds φ source.now c → ((x : _) (b : Bool) → F.post passes x b → b ≡ f x.now) → Picks f φ.clauses kept.new }
+{
+    for i in 0..c.clauses {
+        flag_if(kept, i, passes(clause_at(source, c, i)));
+    }
+}
+
 // Flags the clauses with the literal.
-pub fn flag_with(source: &[u16], c: Counts, literal: u16, kept: &mut [u64])
+pub fn flag_with(source: &[u16], c: Counts, literal: u16, kept: &mut Flags)
     requires held { Held source.now c }
-    requires c_value { well_formed (decode source.now c) ≡ true }
-    requires kept_value { kept.old ≡ replicate 32 0 }
+    requires well { well_formed (decode source.now c) ≡ true }
+    requires none { kept.old ≡ replicate 32 0 }
     ensures { (φ : Formula) → Holds φ source.now c → Picks (has literal) φ.clauses kept.new }
 {
-    let mut i = 0;
-    while i < c.clauses {
-        flag_if(kept, i, contains(clause_at(source, c, i), literal));
-        i += 1;
-    }
+    flag_each(source, c, kept, |clause| contains(clause, literal));
 }
 
 // Flags the clauses with the literal that are far.
@@ -41,21 +52,18 @@ pub fn flag_far(
     c: Counts,
     literal: u16,
     place: u16,
-    ranks: &[u16],
-    kept: &mut [u64],
+    ranks: &Ranks,
+    kept: &mut Flags,
 )
     requires held { Held source.now c }
-    requires c_value { well_formed (decode source.now c) ≡ true }
-    requires ranks_len { (length ranks.now ≡ 1024) × (kept.old ≡ replicate 32 0) }
+    requires well { well_formed (decode source.now c) ≡ true }
+    requires none { kept.old ≡ replicate 32 0 }
     ensures { (φ : Formula) → Holds φ source.now c → Picks (far ranks.now place literal) φ.clauses kept.new }
 {
-    let mut i = 0;
-    while i < c.clauses {
-        flag_if(
-            kept,
-            i,
-            is_far(clause_at(source, c, i), literal, place, ranks),
-        );
-        i += 1;
-    }
+    flag_each(
+        source,
+        c,
+        kept,
+        |clause| is_far(clause, literal, place, ranks),
+    );
 }

@@ -5,51 +5,54 @@ ghost use Rattle.table.specs.Ranks.{small};
 ghost use Rattle.thinning.specs.Going.{Readable};
 
 use crate::near::SHORT;
-use crate::reduces::last_by;
-use table::{Counts, clause_at, contains};
+use table::{Counts, Ranks, clause_at, contains, last_by};
 
 // So many short clauses may be far.
 const FAR: usize = 16;
 
 // Whether a clause is short, has the literal, and has an existential right of the place.
-fn reaches_beyond(clause: &[u16], literal: u16, place: u16, ranks: &[u16]) -> bool
-    requires { (length ranks.now ≡ 1024) × (all_of small clause.now ≡ true) }
+fn reaches_beyond(clause: &[u16], literal: u16, place: u16, ranks: &Ranks) -> bool
+    requires { all_of small clause.now ≡ true }
 {
-    if SHORT < clause.len() {
-        return false;
-    }
-    if contains(clause, literal) {
-        return place < last_by(ranks, 0, clause);
-    }
-    false
+    clause.len() <= SHORT && contains(clause, literal) && place < last_by(ranks, 0, clause)
 }
 
-// Whether more short clauses with the literal than may be far have an existential right of the place.
-fn many_beyond(source: &[u16], c: Counts, literal: u16, place: u16, ranks: &[u16]) -> bool
+// Whether more clauses than n pass a test.
+pub fn more_pass<F: Fn(&[u16]) -> bool>(source: &[u16], c: Counts, n: usize, passes: F) -> bool
     requires readable { Readable source.now c }
-    requires ranks_len { length ranks.now ≡ 1024 }
+    requires callable { (x : _) → all_of small x.now ≡ true → F.pre passes x }
 {
-    let mut left = FAR;
-    let mut i = 0;
-    while i < c.clauses {
-        if reaches_beyond(clause_at(source, c, i), literal, place, ranks) {
+    let mut left = n;
+    for i in 0..c.clauses {
+        if passes(clause_at(source, c, i)) {
             if left == 0 {
                 return true;
             }
             left -= 1;
         }
-        i += 1;
     }
     false
 }
 
+// Whether more short clauses with the literal than may be far have an existential right of the place.
+fn many_beyond(source: &[u16], c: Counts, literal: u16, place: u16, ranks: &Ranks) -> bool
+    requires { Readable source.now c }
+{
+    more_pass(
+        source,
+        c,
+        FAR,
+        |clause| reaches_beyond(clause, literal, place, ranks),
+    )
+}
+
 // The leftmost place beyond which few reach, found by halving.
-pub fn near_place(source: &[u16], c: Counts, literal: u16, ranks: &[u16]) -> u16
+pub fn near_place(source: &[u16], c: Counts, literal: u16, ranks: &Ranks) -> u16
     requires readable { Readable source.now c }
-    requires ranks_len { length ranks.now ≡ 1024 }
 {
     let mut low: u16 = 0;
     let mut high: u16 = 1023;
+    // Kept: halving takes no place after the other, and the library halves slices alone.
     while low < high {
         let middle = (low + high) / 2;
         if many_beyond(source, c, literal, middle, ranks) {

@@ -8,13 +8,13 @@ ghost use Rattle.table.specs.Ranks.{small, stays_by};
 ghost use Rattle.thinning.specs.Thin.{firm, Thinned};
 ghost use Rattle.thinning.specs.Going.{Readable, Meets, Thinning, StandIn, Going};
 
+use crate::Flags;
 use crate::others::{few_with, flag_met};
 use crate::parts::{is_free, same_firm};
 use crate::picks::flag_with;
 use crate::places::near_place;
-use crate::reduces::{all_stay_by, last_by};
 use flags::{next_raised, raise};
-use table::{Counts, clause_at, contains};
+use table::{Counts, Ranks, all_stay_by, clause_at, contains, last_by};
 
 // So many clauses are looked at to find one that stands in for another.
 const LOOKS: usize = 256;
@@ -25,12 +25,12 @@ fn has_firm(
     c: Counts,
     j: usize,
     last: u16,
-    ranks: &[u16],
+    ranks: &Ranks,
     clause: &[u16],
     own: u16,
 ) -> bool
     requires readable { Readable source.now c }
-    requires j_lt_clauses { (j < c.clauses) × (length ranks.now ≡ 1024) × (all_of small clause.now ≡ true) }
+    requires j_lt_clauses { (j < c.clauses) × (all_of small clause.now ≡ true) }
     ensures { (φ : Formula) → Holds φ source.now c → result ≡ same (firm ranks.now last (get_or φ.clauses j [])) (keep_if (stays_by ranks.now own) clause.now) }
 {
     let x = clause_at(source, c, j);
@@ -43,25 +43,23 @@ fn is_stood_for(
     c: Counts,
     i: usize,
     last: u16,
-    ranks: &[u16],
+    ranks: &Ranks,
     clause: &[u16],
     own: u16,
-    standing: &[u64],
+    standing: &Flags,
 ) -> bool
     requires readable { Readable source.now c }
-    requires i_lt_clauses { (i < c.clauses) × (length ranks.now ≡ 1024) × (all_of small clause.now ≡ true) × (length standing.now ≡ 32) }
+    requires i_lt_clauses { (i < c.clauses) × (all_of small clause.now ≡ true) }
     ensures { result ≡ true → (φ : Formula) → Holds φ source.now c → StandIn ranks.now last φ.clauses standing.now i (keep_if (stays_by ranks.now own) clause.now) }
 {
-    let mut left = LOOKS;
     let mut j = next_raised(standing, 0, i);
-    while j < i {
-        if left == 0 {
+    for _look in 0..LOOKS {
+        if i <= j {
             return false;
         }
         if has_firm(source, c, j, last, ranks, clause, own) {
             return true;
         }
-        left -= 1;
         j = next_raised(standing, j + 1, i);
     }
     false
@@ -74,13 +72,13 @@ fn look_at(
     i: usize,
     literal: u16,
     last: u16,
-    ranks: &[u16],
-    met: &[u64],
-    kept: &mut [u64],
-    standing: &mut [u64],
+    ranks: &Ranks,
+    met: &Flags,
+    kept: &mut Flags,
+    standing: &mut Flags,
 )
     requires readable { Readable source.now c }
-    requires i_lt_clauses { (i < c.clauses) × (length ranks.now ≡ 1024) × (length met.now ≡ 32) × (length kept.old ≡ 32) × (length standing.old ≡ 32) }
+    requires i_lt_clauses { i < c.clauses }
     ensures { (φ : Formula) (o : ℕ) → Holds φ source.now c → Meets ranks.now last o φ.clauses met.now → Going ranks.now last literal o φ.clauses kept.old standing.old i → Going ranks.now last literal o φ.clauses kept.new standing.new (i + 1) }
 {
     let clause = clause_at(source, c, i);
@@ -88,11 +86,7 @@ fn look_at(
         return;
     }
     let own = last_by(ranks, last, clause);
-    if all_stay_by(ranks, own, clause) {
-        raise(kept, i);
-        return;
-    }
-    if !is_free(ranks, own, met, clause) {
+    if all_stay_by(ranks, own, clause) || !is_free(ranks, own, met, clause) {
         raise(kept, i);
         return;
     }
@@ -109,19 +103,17 @@ fn flag_some(
     c: Counts,
     literal: u16,
     last: u16,
-    ranks: &[u16],
-    met: &[u64],
-    kept: &mut [u64],
-    standing: &mut [u64],
+    ranks: &Ranks,
+    met: &Flags,
+    kept: &mut Flags,
+    standing: &mut Flags,
 )
     requires readable { Readable source.now c }
-    requires ranks_len { (length ranks.now ≡ 1024) × (length met.now ≡ 32) × (kept.old ≡ replicate 32 0) × (standing.old ≡ replicate 32 0) }
+    requires none { (kept.old ≡ replicate 32 0) × (standing.old ≡ replicate 32 0) }
     ensures { (φ : Formula) (o : ℕ) → Holds φ source.now c → Meets ranks.now last o φ.clauses met.now → Thinning ranks.now last literal o φ.clauses kept.new c.clauses }
 {
-    let mut i = 0;
-    while i < c.clauses {
+    for i in 0..c.clauses {
         look_at(source, c, i, literal, last, ranks, met, kept, standing);
-        i += 1;
     }
 }
 
@@ -131,12 +123,12 @@ pub fn thin(
     c: Counts,
     literal: u16,
     other: u16,
-    ranks: &[u16],
-    kept: &mut [u64],
+    ranks: &Ranks,
+    kept: &mut Flags,
 ) -> u16
     requires held { Held source.now c }
-    requires c_value { well_formed (decode source.now c) ≡ true }
-    requires ranks_len { (length ranks.now ≡ 1024) × (kept.old ≡ replicate 32 0) }
+    requires well { well_formed (decode source.now c) ≡ true }
+    requires none { kept.old ≡ replicate 32 0 }
     ensures { (φ : Formula) → Holds φ source.now c → Thinned ranks.now result literal other φ.clauses kept.new }
 {
     if few_with(source, c, other) {

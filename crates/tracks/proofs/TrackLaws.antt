@@ -20,15 +20,12 @@ use Rattle.qdimacs.specs.declared.Move.TheVariants.{Fault, Go, SetM, SetC, Entry
 use Rattle.table.specs.Table.{with_raw, with_variable}
 use Rattle.table.specs.Answer.{Became}
 use Rattle.table.specs.Ranks.{ranks_of}
-use Rattle.table.specs.Pending.{empty_pending, Pends}
+use Rattle.table.specs.Pending.{Pends}
 use Rattle.table.specs.declared.Counts.{Counts}
-use Rattle.table.specs.declared.Pending.{Pending}
-use Rattle.table.specs.declared.Pushed.{Pushed}
-use Rattle.table.specs.declared.Pushed.TheVariants.{Done, Full}
+use Rattle.std.specs.Prelude.{Option, Some, None, Ok, Err}
 use Rattle.marks.specs.Marks.{Marked, Went}
 use Rattle.tracks.specs.Tracks.{so_far, in_phase, with_m, with_c, with_entry, with_pending, with_closed, Stores, Tracks, Allowed, entered, Entered, Steps}
 use Rattle.tracks.specs.declared.Reader.{Reader}
-use Rattle.tracks.specs.declared.Stepped.TheVariants.{Stop, On}
 use Rattle.meaning.proofs.Basics.{by_cases, clash, and_l, and_r}
 use Rattle.meaning.proofs.Lists.{all_append}
 use Rattle.meaning.proofs.Parts.{room_of, of_room}
@@ -36,7 +33,6 @@ use Rattle.meaning.proofs.Prefix.{good-next, prefix-few}
 use Rattle.meaning.proofs.Weight.{build-less}
 use Rattle.table.proofs.HoldLaws.{room, count-variables}
 use Rattle.table.proofs.AnswerLaws.{became-fits, became-done, became-second, became-full}
-use Rattle.table.proofs.RankLaws.{length-ranks}
 use Rattle.table.proofs.PendingLaws.{pends-empty}
 
 -- An entry -----------------------------------------------------------------------------------------------------
@@ -58,8 +54,8 @@ module _ (st : State) (r : Reader) (t k : List ℕ) (h : Stores st r t k) (e : �
   entry-count = unfold so_far tidied in sym (count-variables h.table)
 
   -- what adding a rank asks for
-  pub entry-rank : (length k ≡ 1024) × (r.counts.variables < 1023) × (e < 2048)
-  entry-rank = (rw h.ranks (length-ranks st.prefix), omega (arith, entry-few, entry-count), last-number st.prefix e a.1)
+  pub entry-rank : (r.counts.variables < 1023) × (e < 2048)
+  entry-rank = (omega (arith, entry-few, entry-count), last-number st.prefix e a.1)
 
   entry-fits : fits (with_variable (so_far st) e) ≡ true
   unfolding with_variable so_far tidied
@@ -67,12 +63,12 @@ module _ (st : State) (r : Reader) (t k : List ℕ) (h : Stores st r t k) (e : �
       let q = room h.table in
       of_room _ (record { variables = omega (arith, prefix-few max_variables (st.prefix ++ (e ∷ [])) a.0 a.1); numbers = a.1; clauses = q.clauses; literals = q.literals })
 
-  module _ (x : Pushed) (t' : List ℕ) (b : Became (so_far st) (with_variable (so_far st) e) r.counts.second x t') where
+  module _ (x : Option Counts) (t' : List ℕ) (b : Became (so_far st) (with_variable (so_far st) e) r.counts.second x t') where
     -- the table has room for it
-    pub entry-never : x ≡ Full → ⊥
+    pub entry-never : x ≡ None → ⊥
     entry-never f = clash entry-fits (became-full _ _ _ _ _ b f)
 
-    pub entry_done : (d : Counts) → x ≡ Done d → (n : Reader) → n ≡ with_entry r e d → (k' : List ℕ)
+    pub entry_done : (d : Counts) → x ≡ Some d → (n : Reader) → n ≡ with_entry r e d → (k' : List ℕ)
         → ((p : List ℕ) → length p ≡ r.counts.variables → mentions p (var e) ≡ false → k ≡ ranks_of p → k' ≡ ranks_of (p ++ (e ∷ [])))
         → Entered st r e n t' k'
     unfolding entered
@@ -112,9 +108,6 @@ module _ (st : State) (r : Reader) (t s k m : List ℕ) (h : Tracks st r t s k m
   pub close-few : r.closed ≤ max_clauses
   close-few = omega (arith, h.stores.closed, a.1)
 
-  pub close-ranks : length k ≡ 1024
-  close-ranks = rw h.stores.ranks (length-ranks st.prefix)
-
   abbrev passes : Bool
   passes = passes_literals st.prefix (st.clauses ++ (st.pending ∷ []))
 
@@ -133,18 +126,18 @@ module _ (st : State) (r : Reader) (t s k m : List ℕ) (h : Tracks st r t s k m
         literals = ltb-false max_literals _ f;
       })
 
-  module _ (x : Pushed) (t' m' : List ℕ) (w : Went (so_far st) (with_raw (so_far st) st.pending) r.counts.second x t' m') (at : ℕ) where
+  module _ (x : Option Counts) (t' m' : List ℕ) (w : Went (so_far st) (with_raw (so_far st) st.pending) r.counts.second x t' m') (at : ℕ) where
     abbrev b : Became (so_far st) (with_raw (so_far st) st.pending) r.counts.second x t'
     b = w.became
 
-    pub close-full : x ≡ Full → act st at Close ≡ faulty TOO-BIG at
+    pub close-full : x ≡ None → act st at Close ≡ faulty TOO-BIG at
     unfolding act
     close-full f =
         by_cases passes (λ p. rw p)
         (λ p. clash (rw (closed-formula st) at (passes-fits p)) (became-full _ _ _ _ _ b f))
 
-    pub close-done : (d : Counts) → x ≡ Done d → (n : Reader) → n ≡ with_closed r d → (s' : List ℕ) → length s' ≡ length s
-        → Steps st at Close (On n) t' s' k m'
+    pub close-done : (d : Counts) → x ≡ Some d → (n : Reader) → n ≡ with_closed r d → (s' : List ℕ) → length s' ≡ max_variables
+        → Steps st at Close (Ok n) t' s' k m'
     unfolding act closing
     close-done d f n q s' long = (
       closing st,
@@ -159,18 +152,18 @@ module _ (st : State) (r : Reader) (t s k m : List ℕ) (h : Tracks st r t s k m
           first = became-second _ _ _ _ _ b d f ∙ h.stores.first;
           ranks = h.stores.ranks;
         };
-        pending = pends-empty s' empty_pending refl (long ∙ h.pending.room);
+        pending = pends-empty s' long;
         marked = rw (closed-formula st) (rw (became-fits _ _ _ _ _ b d f) at w.marks);
       }),
     )
 
 -- A move, as the code matches it ------------------------------------------------------------------------------
 module _ (st : State) (r : Reader) (t s k m : List ℕ) (h : Tracks st r t s k m) (at : ℕ) (mv : Move) where
-  pub step-fault : (x : ℕ) → mv ≡ Fault x → Steps st at mv (Stop x) t s k m
+  pub step-fault : (x : ℕ) → mv ≡ Fault x → Steps st at mv (Err x) t s k m
   unfolding act
   step-fault x e = rw e
 
-  pub step-go : (ph : Phase) → mv ≡ Go ph → (n : Reader) → n ≡ in_phase r ph → Steps st at mv (On n) t s k m
+  pub step-go : (ph : Phase) → mv ≡ Go ph → (n : Reader) → n ≡ in_phase r ph → Steps st at mv (Ok n) t s k m
   unfolding act so_far
   step-go ph e n q =
       let o = h.stores in
@@ -184,7 +177,7 @@ module _ (st : State) (r : Reader) (t s k m : List ℕ) (h : Tracks st r t s k m
         },
       )
 
-  pub step-m : (x : ℕ) → mv ≡ SetM x → (n : Reader) → n ≡ with_m r x → Steps st at mv (On n) t s k m
+  pub step-m : (x : ℕ) → mv ≡ SetM x → (n : Reader) → n ≡ with_m r x → Steps st at mv (Ok n) t s k m
   unfolding act so_far
   step-m x e n q =
       let o = h.stores in
@@ -198,7 +191,7 @@ module _ (st : State) (r : Reader) (t s k m : List ℕ) (h : Tracks st r t s k m
         },
       )
 
-  pub step-c : (x : ℕ) → mv ≡ SetC x → (n : Reader) → n ≡ with_c r x → Steps st at mv (On n) t s k m
+  pub step-c : (x : ℕ) → mv ≡ SetC x → (n : Reader) → n ≡ with_c r x → Steps st at mv (Ok n) t s k m
   unfolding act so_far
   step-c x e n q =
       let o = h.stores in
@@ -213,7 +206,7 @@ module _ (st : State) (r : Reader) (t s k m : List ℕ) (h : Tracks st r t s k m
       )
 
   pub step-entry : (x : ℕ) → mv ≡ Entry x → Allowed st (Entry x) → (n : Reader) (t' k' : List ℕ) → Entered st r x n t' k'
-      → Steps st at mv (On n) t' s k' m
+      → Steps st at mv (Ok n) t' s k' m
   unfolding act entered
   step-entry x e a n t' k' d =
       rw e (
@@ -226,8 +219,8 @@ module _ (st : State) (r : Reader) (t s k m : List ℕ) (h : Tracks st r t s k m
         },
       )
 
-  pub step-literal : (x : ℕ) → mv ≡ Literal x → (n : Reader) (q : Pending) → n ≡ with_pending r q → (s' : List ℕ)
-      → Pends (st.pending ++ (x ∷ [])) s' q → Steps st at mv (On n) t s' k m
+  pub step-literal : (x : ℕ) → mv ≡ Literal x → (n : Reader) (q : Option ℕ) → n ≡ with_pending r q → (s' : List ℕ)
+      → Pends (st.pending ++ (x ∷ [])) s' q → Steps st at mv (Ok n) t s' k m
   unfolding act so_far
   step-literal x e n q p s' d =
       let o = h.stores in

@@ -1,7 +1,7 @@
 -- The state of reading, as the code has it: its record, the table of the formula so far, the scratch that holds the open
 -- clause, the ranks of the prefix, and the marks of the clauses so far.
 -- Assumes nothing.
-use Rattle.std.specs.Prelude.{◌≡◌, true, false, List, [], ◌∷◌, ◌++◌, ℕ, ◌+◌, ◌%◌, ◌≤◌, ◌<◌, leb, length}
+use Rattle.std.specs.Prelude.{◌≡◌, true, false, List, [], ◌∷◌, ◌++◌, ℕ, ◌+◌, ◌%◌, ◌≤◌, ◌<◌, leb, length, Option, Result, Ok, Err}
 use Rattle.meaning.specs.Lists.{all_of}
 use Rattle.meaning.specs.Formula.{Formula, var}
 use Rattle.meaning.specs.Tidy.{tidied}
@@ -15,11 +15,8 @@ use Rattle.table.specs.Table.{empty_formula, counts_of, Holds}
 use Rattle.table.specs.Ranks.{ranks_of}
 use Rattle.table.specs.Pending.{empty_pending, Pends}
 use Rattle.table.specs.declared.Counts.{Counts}
-use Rattle.table.specs.declared.Pending.{Pending}
 use Rattle.marks.specs.Marks.{Marks}
 use Rattle.tracks.specs.declared.Reader.{Reader}
-use Rattle.tracks.specs.declared.Stepped.{Stepped}
-use Rattle.tracks.specs.declared.Stepped.TheVariants.{Stop, On}
 
 -- the formula of a state: the closed clauses, tidied
 unfoldable pub so_far : State → Formula
@@ -41,7 +38,7 @@ with_c r n = record { phase = Line; m = r.m; c = n; closed = r.closed; counts = 
 abbrev pub with_entry : Reader → ℕ → Counts → Reader
 with_entry r e d = record { phase = Vars (e % 2); m = r.m; c = r.c; closed = r.closed; counts = d; pending = r.pending }
 
-abbrev pub with_pending : Reader → Pending → Reader
+abbrev pub with_pending : Reader → Option ℕ → Reader
 with_pending r p = record { phase = Clause; m = r.m; c = r.c; closed = r.closed; counts = r.counts; pending = p }
 
 abbrev pub with_closed : Reader → Counts → Reader
@@ -101,6 +98,6 @@ pub record Entered (st : State) (r : Reader) (e : ℕ) (n : Reader) (t ranks : L
   pub pending : n.pending ≡ r.pending
 
 -- the definition's step from the state, as the code takes it: the same fault, or a state that is held
-abbrev pub Steps : State → ℕ → Move → Stepped → List ℕ → List ℕ → List ℕ → List ℕ → Type 0
-Steps st at mv (Stop k) t scratch ranks marks = act st at mv ≡ faulty k at
-Steps st at mv (On r) t scratch ranks marks = (st' : State) × (act st at mv ≡ reads st') × Tracks st' r t scratch ranks marks
+abbrev pub Steps : State → ℕ → Move → Result Reader ℕ → List ℕ → List ℕ → List ℕ → List ℕ → Type 0
+Steps st at mv (Err k) t scratch ranks marks = act st at mv ≡ faulty k at
+Steps st at mv (Ok r) t scratch ranks marks = (st' : State) × (act st at mv ≡ reads st') × Tracks st' r t scratch ranks marks

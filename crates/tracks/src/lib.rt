@@ -10,7 +10,7 @@ ghost use Rattle.tracks.specs.Tracks.{fresh, in_phase, with_m, with_c, with_entr
 
 use marks::close_marked;
 use qdimacs::{Move, Phase};
-use table::{Counts, Pending, Pushed, add_rank, push_variable, put_literal};
+use table::{Counts, Pending, Ranks, Scratch, add_rank, push_variable, put_literal};
 
 // What is read so far: the phase, M, C, the clauses closed, as written; the counts of the table, the open clause.
 #[derive(Clone, Copy)]
@@ -23,27 +23,18 @@ pub struct Reader {
     pub pending: Pending,
 }
 
-// What comes of a move: a fault with this number, or the reader goes on.
-#[derive(Clone, Copy)]
-pub enum Stepped {
-    Stop(u8),
-    On(Reader),
-}
-
 impl Reader {
     // Nothing is read yet.
     pub fn new() -> Self
         ensures { result ≡ fresh }
     {
-        let counts = Counts::empty();
-        let pending = Pending::empty();
         Self {
             phase: Phase::AtP,
             m: 0,
             c: 0,
             closed: 0,
-            counts: counts,
-            pending: pending,
+            counts: Counts::empty(),
+            pending: Some(0),
         }
     }
 
@@ -51,31 +42,17 @@ impl Reader {
     pub fn in_phase(self, phase: Phase) -> Self
         ensures { result ≡ in_phase self phase }
     {
-        let counts = self.counts;
-        let pending = self.pending;
-        Self {
-            phase: phase,
-            m: self.m,
-            c: self.c,
-            closed: self.closed,
-            counts: counts,
-            pending: pending,
-        }
+        Self { phase, ..self }
     }
 
     // M is told.
     pub fn with_m(self, m: u16) -> Self
         ensures { result ≡ with_m self m }
     {
-        let counts = self.counts;
-        let pending = self.pending;
         Self {
             phase: Phase::AtC,
-            m: m,
-            c: self.c,
-            closed: self.closed,
-            counts: counts,
-            pending: pending,
+            m,
+            ..self
         }
     }
 
@@ -83,15 +60,10 @@ impl Reader {
     pub fn with_c(self, c: u16) -> Self
         ensures { result ≡ with_c self c }
     {
-        let counts = self.counts;
-        let pending = self.pending;
         Self {
             phase: Phase::Line,
-            m: self.m,
-            c: c,
-            closed: self.closed,
-            counts: counts,
-            pending: pending,
+            c,
+            ..self
         }
     }
 
@@ -99,14 +71,10 @@ impl Reader {
     pub fn with_entry(self, entry: u16, counts: Counts) -> Self
         ensures { result ≡ with_entry self entry counts }
     {
-        let pending = self.pending;
         Self {
             phase: Phase::Vars(entry % 2),
-            m: self.m,
-            c: self.c,
-            closed: self.closed,
-            counts: counts,
-            pending: pending,
+            counts,
+            ..self
         }
     }
 
@@ -114,14 +82,10 @@ impl Reader {
     pub fn with_pending(self, pending: Pending) -> Self
         ensures { result ≡ with_pending self pending }
     {
-        let counts = self.counts;
         Self {
             phase: Phase::Clause,
-            m: self.m,
-            c: self.c,
-            closed: self.closed,
-            counts: counts,
-            pending: pending,
+            pending,
+            ..self
         }
     }
 
@@ -131,16 +95,12 @@ impl Reader {
         ensures { result ≡ with_closed self counts }
     {
         let closed = self.closed + 1;
-        let c = self.c;
-        let phase = after_clause(closed, c);
-        let pending = Pending::empty();
         Self {
-            phase: phase,
-            m: self.m,
-            c: c,
-            closed: closed,
-            counts: counts,
-            pending: pending,
+            phase: after_clause(closed, self.c),
+            closed,
+            counts,
+            pending: Some(0),
+            ..self
         }
     }
 }
@@ -168,18 +128,16 @@ pub fn after_clause(closed: usize, c: u16) -> Phase
 }
 
 // An entry more at the right end of the prefix.
-pub fn add_entry(r: Reader, entry: u16, table: &mut [u16], ranks: &mut [u16]) -> Reader
+pub fn add_entry(r: Reader, entry: u16, table: &mut [u16], ranks: &mut Ranks) -> Reader
     requires { Entering r entry table.old ranks.old }
     ensures { (st : State) → Stores st r table.old ranks.old → Allowed st (Entry entry) → Entered st r entry result table.new ranks.new }
 {
-    let old = r.counts;
-    let n = old.variables;
-    match push_variable(table, old, entry) {
-        Pushed::Done(counts) => {
-            add_rank(ranks, n, entry);
+    match push_variable(table, r.counts, entry) {
+        Some(counts) => {
+            add_rank(ranks, r.counts.variables, entry);
             r.with_entry(entry, counts)
         }
-        Pushed::Full => r,
+        None => r,
     }
 }
 
@@ -187,43 +145,41 @@ pub fn add_entry(r: Reader, entry: u16, table: &mut [u16], ranks: &mut [u16]) ->
 pub fn close(
     r: Reader,
     table: &mut [u16],
-    scratch: &mut [u16],
-    ranks: &[u16],
+    scratch: &mut Scratch,
+    ranks: &Ranks,
     marks: &mut [u16],
-) -> Stepped
+) -> Result<Reader, u8>
     requires { Ready r Close table.old scratch.old ranks.now marks.old }
     ensures { (st : State) (at : ℕ) → Tracks st r table.old scratch.old ranks.now marks.old → Allowed st Close → Steps st at Close result table.new scratch.new ranks.now marks.new }
 {
-    let old = r.counts;
-    let pending = r.pending;
-    match close_marked(table, old, scratch, pending, ranks, marks) {
-        Pushed::Done(counts) => Stepped::On(r.with_closed(counts)),
-        Pushed::Full => Stepped::Stop(9),
+    match close_marked(table, r.counts, scratch, r.pending, ranks, marks) {
+        Some(counts) => Ok(r.with_closed(counts)),
+        None => Err(9),
     }
 }
 
-// What a move does.
+// What a move does: the reader after it, or the number of a fault.
+// Kept: the number and no enum of faults, since `Move::Fault` has document 01's numbers, as `Steps` says.
 pub fn apply(
     r: Reader,
     mv: Move,
     table: &mut [u16],
-    scratch: &mut [u16],
-    ranks: &mut [u16],
+    scratch: &mut Scratch,
+    ranks: &mut Ranks,
     marks: &mut [u16],
-) -> Stepped
+) -> Result<Reader, u8>
     requires { Ready r mv table.old scratch.old ranks.old marks.old }
     ensures { (st : State) (at : ℕ) → Tracks st r table.old scratch.old ranks.old marks.old → Allowed st mv → Steps st at mv result table.new scratch.new ranks.new marks.new }
 {
     match mv {
-        Move::Fault(k) => Stepped::Stop(k),
-        Move::Go(phase) => Stepped::On(r.in_phase(phase)),
-        Move::SetM(n) => Stepped::On(r.with_m(n)),
-        Move::SetC(n) => Stepped::On(r.with_c(n)),
-        Move::Entry(entry) => Stepped::On(add_entry(r, entry, table, ranks)),
+        Move::Fault(k) => Err(k),
+        Move::Go(phase) => Ok(r.in_phase(phase)),
+        Move::SetM(n) => Ok(r.with_m(n)),
+        Move::SetC(n) => Ok(r.with_c(n)),
+        Move::Entry(entry) => Ok(add_entry(r, entry, table, ranks)),
         Move::Literal(literal) => {
-            let old = r.pending;
-            let pending = put_literal(scratch, old, literal);
-            Stepped::On(r.with_pending(pending))
+            let pending = put_literal(scratch, r.pending, literal);
+            Ok(r.with_pending(pending))
         }
         Move::Close => close(r, table, scratch, ranks, marks),
     }

@@ -8,9 +8,12 @@ use lib.ListN.{length, get_or, take, drop, drop_of_length-le}
 use lib.Seq.{drop-cons}
 use native.Mathlib.Numerals.{add-one}
 use native.Mathlib.Omega.{arith}
+use lib.Dec.{leb}
+use borrow.Author.Tests.{leb-true, leb-false}
 use Rattle.meaning.specs.Lists.{any_of, all_of, part_of}
 use Rattle.meaning.specs.Formula.{var, existential}
 use Rattle.meaning.specs.WellFormed.{ascends}
+use Rattle.meaning.proofs.Basics.{by_cases}
 use Rattle.table.proofs.ListLaws.{tail-mid}
 use Rattle.walks.specs.Walks.{some_strengthens}
 use Rattle.walks.proofs.MergeLaws.{ascends-tail, part_same, part-past, part-not, part_none, strong-same, strong-past, strong-not, strong-here, strong-end}
@@ -73,6 +76,13 @@ module _ {x y : List ℕ} (i j : ℕ) (inv : Ahead part_of x y i j) where
       pub part-fails : get_or x i 0 < get_or y j 0 → false ≡ part_of x y
       part-fails m = sym (whole_of i j inv h g ∙ part-not _ _ _ _ (left-of i j inv h) (right-of i j inv h g) m)
 
+-- y is at its end: x must be at its own
+pub part-over : {x y : List ℕ} (i j : ℕ) → Ahead part_of x y i j → length y ≤ j → leb (length x) i ≡ part_of x y
+part-over {x} {y} i j inv g =
+    by_cases (leb (length x) i)
+    (λ e. e ∙ part_end i j inv (leb-true (length x) i e))
+    (λ e. e ∙ part_out i j inv (leb-false (length x) i e) g)
+
 -- The strengthening test -----------------------------------------------------------------------------------------
 module _ (p : List ℕ) {x y : List ℕ} (i j : ℕ) (inv : Ahead (some_strengthens p) x y i j) where
   pub strong-end-x : length x ≤ i → false ≡ some_strengthens p x y
@@ -118,3 +128,10 @@ module _ (p : List ℕ) {x y : List ℕ} (i j : ℕ) (inv : Ahead (some_strength
             (rw (tail-mid x (i + 1), tail-mid y (j + 1), add-one i, add-one j) at s)
             (ascends-tail (get_or x i 0) (drop (suc i) x) (left-of i j inv h)) (ascends-tail (get_or y j 0) (drop (suc j) y) (right-of i j inv h g))
             ∙ sym (here ∙ rw q)
+
+-- y is at its end
+pub strong-over : (p : List ℕ) {x y : List ℕ} (i j : ℕ) → Ahead (some_strengthens p) x y i j → length y ≤ j → false ≡ some_strengthens p x y
+strong-over p {x} {y} i j inv g =
+    by_cases (leb (length x) i)
+    (λ e. strong-end-x p i j inv (leb-true (length x) i e))
+    (λ e. strong-out p i j inv (leb-false (length x) i e) g)

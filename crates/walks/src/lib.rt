@@ -2,27 +2,26 @@
 // and whether one strengthens the other, is found in one walk.
 #![tactic(auto)]
 
-ghost use Rattle.std.specs.Prelude.{◌≡◌, ℕ, true, List, length};
+ghost use Rattle.std.specs.Prelude.{◌≡◌, ℕ, true, List};
 ghost use Rattle.meaning.specs.Lists.{part_of};
 ghost use Rattle.meaning.specs.WellFormed.{ascends};
 ghost use Rattle.table.specs.Ranks.{ranks_of, good_entries};
 ghost use Rattle.walks.specs.Walks.{some_strengthens};
 
 use permits::is_existential;
+use table::Ranks;
 
 // Whether every literal of x is in y.
+// Kept: the index into x is counted by hand, here and below, since it goes up at some turns only.
 pub fn is_part(x: &[u16], y: &[u16]) -> bool
     ensures { ascends x.now ≡ true → ascends y.now ≡ true → result ≡ part_of x.now y.now }
 {
     let mut i = 0;
-    let mut j = 0;
-    while i < x.len() {
-        if y.len() <= j {
-            return false;
+    for &k in y {
+        if x.len() <= i {
+            return true;
         }
         let l = x[i];
-        let k = y[j];
-        j += 1;
         if l == k {
             i += 1;
             continue;
@@ -31,24 +30,20 @@ pub fn is_part(x: &[u16], y: &[u16]) -> bool
             return false;
         }
     }
-    true
+    x.len() <= i
 }
 
 // Whether some literal of x strengthens y. Up to that literal the two agree; there y has its opposite, which stands where the literal
 // would; and y has all of x that is behind.
-pub fn strengthens_part(ranks: &[u16], x: &[u16], y: &[u16]) -> bool
-    requires { length ranks.now ≡ 1024 }
+pub fn strengthens_part(ranks: &Ranks, x: &[u16], y: &[u16]) -> bool
     ensures { (p : List ℕ) → ranks.now ≡ ranks_of p → good_entries p ≡ true → ascends x.now ≡ true → ascends y.now ≡ true → result ≡ some_strengthens p x.now y.now }
 {
     let mut i = 0;
-    let mut j = 0;
-    while i < x.len() {
-        if y.len() <= j {
+    for (j, &k) in y.iter().enumerate() {
+        if x.len() <= i {
             return false;
         }
         let l = x[i];
-        let k = y[j];
-        j += 1;
         if l == k {
             i += 1;
             continue;
@@ -60,11 +55,7 @@ pub fn strengthens_part(ranks: &[u16], x: &[u16], y: &[u16]) -> bool
         if v < k / 2 {
             return false;
         }
-        if is_existential(ranks, v as usize) {
-            let next = i + 1;
-            return is_part(&x[next..], &y[j..]);
-        }
-        return false;
+        return is_existential(ranks, v as usize) && is_part(&x[i + 1..], &y[j + 1..]);
     }
     false
 }

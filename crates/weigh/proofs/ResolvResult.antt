@@ -14,7 +14,7 @@ use Rattle.meaning.specs.WellFormed.{bound, tidy_clause, distinct, well_formed, 
 use Rattle.rules.specs.Eliminate.{with_lit, without_var, resolve_raw}
 use Rattle.rules.specs.Entry.{resolve}
 use Rattle.rules.specs.Step.{raw_of, result_of}
-use Rattle.resolvents.specs.Resolvent.{resolvent, becomes}
+use Rattle.resolvents.specs.Resolvent.{resolvent}
 use Rattle.weigh.specs.Resolving.{rest_of, stay_of, raw_resolvents, pairs, resolved_to, positive_at, negative_at, resolvent_at, came_before}
 use Rattle.meaning.proofs.Basics.{clash, false_of, and_l, and_r, and_i, not-true}
 use Rattle.meaning.proofs.Lists.{all_append, all-all, all-le, all-kept, all-keep-le, any-keep-le, any-ascending}
@@ -131,11 +131,6 @@ module _ (φ : Formula) (w : well_formed φ ≡ true) (a : ℕ) where
     pub resolved-next : (resolved_to φ a (k + 1)).clauses ≡ add_tidied (resolved_to φ a k).clauses (resolvent_at φ a k)
     unfolding resolved_to resolvent_at
     resolved-next = build-next (rest_of φ a) (stay_of φ a) (raw_resolvents φ a) k (unfold pairs in h) ∙ rw pair-raw
-
-    -- whether it came before, by its raw clause in the list
-    pub became-at : (c : List ℕ) → becomes c (tidy (rest_of φ a) (get_or (raw_resolvents φ a) k [])) ≡ becomes c (resolvent_at φ a k)
-    unfolding resolvent_at
-    became-at c = rw pair-raw
 
   -- What is there after k pairs ---------------------------------------------------------------------------------------
   base_same : (c : List ℕ) → mentions c a ≡ false → any_of (same c) (stay_of φ a) ≡ any_of (same c) φ.clauses

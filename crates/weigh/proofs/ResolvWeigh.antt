@@ -4,6 +4,7 @@ use Prim.Native.Nat.{ℕ, ◌+◌, ◌≤◌, ◌<◌}
 use mathlib.Core.Path.{◌≡◌, sym, ap, ◌∙◌}
 use mathlib.Core.Bool.{Bool, true, false, cond}
 use mathlib.Core.List.{List}
+use Rattle.std.specs.Prelude.{Option, Some, None}
 use lib.ListN.{length, take}
 use lib.Seq.{length-take-le}
 use lib.Dec.{ltb, leb}
@@ -18,11 +19,11 @@ use Rattle.rules.specs.Step.{result_of}
 use Rattle.table.specs.Table.{counts_of, clause_more}
 use Rattle.table.specs.Pending.{tidied_in}
 use Rattle.table.specs.declared.Counts.{Counts}
-use Rattle.table.specs.declared.Pending.{Pending}
 use Rattle.growth.specs.Weights.{weighed, Summable}
 use Rattle.growth.specs.declared.Weighed.{Weighed}
 use Rattle.growth.specs.declared.Weighed.TheVariants.{Over, Fitting, Wide}
 use Rattle.weigh.specs.Resolving.{rest_of, pairs, resolvent_at, resolved_to, Bounded, CountedTo}
+use Rattle.growth.proofs.ExpandLoops.{weight_is}
 use Rattle.meaning.proofs.Basics.{false_of, by_cases}
 use Rattle.meaning.proofs.Parts.{room_of, of_room}
 use Rattle.weigh.proofs.ResolvBuild.{add_none, add-clauses, add-literals}
@@ -30,43 +31,44 @@ use Rattle.weigh.proofs.ResolvResult.{resolved-next, resolved-grows, pair-free, 
 
 -- The counts after one pair more -------------------------------------------------------------------------------------------
 module _ (φ : Formula) (w : well_formed φ ≡ true) (a k : ℕ) (h : k < pairs φ a) (d : Counts) (is : d ≡ counts_of (resolved_to φ a k) d.second)
-    (s : List ℕ) (p : Pending) (made : tidied_in s p ≡ resolvent_at φ a k) where
+    (s : List ℕ) (p : Option ℕ) (made : tidied_in s p ≡ resolvent_at φ a k) where
   same-counts : (resolved_to φ a (k + 1)).clauses ≡ (resolved_to φ a k).clauses → d ≡ counts_of (resolved_to φ a (k + 1)) d.second
   unfolding counts_of resolved_to
   same-counts e = is ∙ rw e
 
-  pub next-dropped : p.both ≡ true → d ≡ counts_of (resolved_to φ a (k + 1)) d.second
+  pub next-dropped : p ≡ None → d ≡ counts_of (resolved_to φ a (k + 1)) d.second
   unfolding tidied_in add_tidied
   next-dropped e =
       let r : resolvent_at φ a k ≡ dropped = sym made ∙ rw e in
       same-counts (resolved-next φ w a k h ∙ rw r)
 
-  made_kept : p.both ≡ false → resolvent_at φ a k ≡ kept (take p.size s)
-  unfolding tidied_in
-  made_kept e = sym made ∙ rw e
+  module _ (m : ℕ) (some : p ≡ Some m) where
+    made_kept : resolvent_at φ a k ≡ kept (take m s)
+    unfolding tidied_in
+    made_kept = sym made ∙ rw some
 
-  pub kept_free : p.both ≡ false → mentions (take p.size s) a ≡ false
-  kept_free e = pair-free φ w a k h (take p.size s) (made_kept e)
+    pub kept_free : mentions (take m s) a ≡ false
+    kept_free = pair-free φ w a k h (take m s) made_kept
 
-  module _ (e : p.both ≡ false) (b : Bool) (there : b ≡ any_of (same (take p.size s)) (resolved_to φ a k).clauses) where
-    pub next-there : b ≡ true → d ≡ counts_of (resolved_to φ a (k + 1)) d.second
-    next-there t =
-        same-counts (resolved-next φ w a k h ∙ rw (made_kept e) (add_none (resolved_to φ a k).clauses (take p.size s) (sym there ∙ t)))
+    module _ (b : Bool) (there : b ≡ any_of (same (take m s)) (resolved_to φ a k).clauses) where
+      pub next-there : b ≡ true → d ≡ counts_of (resolved_to φ a (k + 1)) d.second
+      next-there t =
+          same-counts (resolved-next φ w a k h ∙ rw made_kept (add_none (resolved_to φ a k).clauses (take m s) (sym there ∙ t)))
 
-    pub next-new : b ≡ false → p.size ≤ length s → clause_more d p.size ≡ counts_of (resolved_to φ a (k + 1)) d.second
-    unfolding counts_of resolved_to
-    next-new t room =
-        let cs = (resolved_to φ a k).clauses in
-        let x = take p.size s in
-        let new : any_of (same x) cs ≡ false = sym there ∙ t in
-        let n : (resolved_to φ a (k + 1)).clauses ≡ add_tidied cs (kept x) = resolved-next φ w a k h ∙ ap (add_tidied cs) (made_kept e) in
-        let c : d.clauses + 1 ≡ length (resolved_to φ a (k + 1)).clauses = ap (λ (y : Counts). y.clauses + 1) is
-        ∙ sym (ap length n ∙ add-clauses cs x new) in
-        let m : d.literals + p.size ≡ literals (resolved_to φ a (k + 1)).clauses =
-        ap (λ (y : Counts). y.literals + p.size) is
-        ∙ sym (ap literals n ∙ add-literals cs x new ∙ ap (λ (y : ℕ). literals cs + y) (length-take-le p.size s room)) in
-        let v : d.variables ≡ length (rest_of φ a) = ap (λ (y : Counts). y.variables) is in
-        λ i. record { variables = v i; clauses = c i; literals = m i; second = d.second }
+      pub next-new : b ≡ false → m ≤ length s → clause_more d m ≡ counts_of (resolved_to φ a (k + 1)) d.second
+      unfolding counts_of resolved_to
+      next-new t room =
+          let cs = (resolved_to φ a k).clauses in
+          let x = take m s in
+          let new : any_of (same x) cs ≡ false = sym there ∙ t in
+          let n : (resolved_to φ a (k + 1)).clauses ≡ add_tidied cs (kept x) = resolved-next φ w a k h ∙ ap (add_tidied cs) made_kept in
+          let c : d.clauses + 1 ≡ length (resolved_to φ a (k + 1)).clauses = ap (λ (y : Counts). y.clauses + 1) is
+          ∙ sym (ap length n ∙ add-clauses cs x new) in
+          let more : d.literals + m ≡ literals (resolved_to φ a (k + 1)).clauses =
+          ap (λ (y : Counts). y.literals + m) is
+          ∙ sym (ap literals n ∙ add-literals cs x new ∙ ap (λ (y : ℕ). literals cs + y) (length-take-le m s room)) in
+          let v : d.variables ≡ length (rest_of φ a) = ap (λ (y : Counts). y.variables) is in
+          λ i. record { variables = v i; clauses = c i; literals = more i; second = d.second }
 
 -- and they stay small
 module _ {k : ℕ} {d : Counts} (b : Bounded k d) where
@@ -91,10 +93,6 @@ module _ {k : ℕ} {d : Counts} (b : Bounded k d) where
 
 -- Against the bound ----------------------------------------------------------------------------------------------------------
 module _ (ψ : Formula) (d : Counts) (is : d ≡ counts_of ψ d.second) where
-  pub weight_is : d.variables + (d.clauses + d.literals) ≡ weight ψ
-  unfolding counts_of weight
-  weight_is = ap (λ (x : Counts). x.variables + (x.clauses + x.literals)) is
-
   counted : (d.variables ≡ length ψ.prefix) × (d.clauses ≡ length ψ.clauses) × (d.literals ≡ literals ψ.clauses)
   unfolding counts_of
   counted = (ap (λ (x : Counts). x.variables) is, ap (λ (x : Counts). x.clauses) is, ap (λ (x : Counts). x.literals) is)

@@ -1,13 +1,16 @@
 -- Digit by digit comes to the value of all, as long as there are four at most.
 -- Assumes nothing.
-use Prim.Native.Nat.{ℕ, suc, ◌+◌, ◌-◌, ◌*◌, ◌≤◌, ◌<◌}
+use Prim.Native.Nat.{ℕ, ◌+◌, ◌-◌, ◌*◌, ◌≤◌, ◌<◌}
 use mathlib.Core.Path.{◌≡◌, refl, sym, ap, ◌∙◌}
 use mathlib.Core.Bool.{true, cond}
-use mathlib.Core.List.{List, [], ◌∷◌, ◌++◌}
+use mathlib.Core.List.{List, [], ◌∷◌}
 use native.Mathlib.Omega.{arith}
 use borrow.Author.Tests.{lt-ltb, le-ltb}
-use lib.ListN.{length, get_or, take, length-take}
-use lib.Seq.{take-suc, take_all}
+use lib.ListN.{length, get_or, drop, drop_of_length-le}
+use lib.Seq.{drop-cons}
+use mathlib.Core.Logic.{inl, inr}
+use Rattle.std.proofs.Common.{add-one}
+use Rattle.std.specs.Char.{IsNotAsciiDigit}
 use Rattle.meaning.specs.Lists.{all_of}
 use Rattle.meaning.proofs.Basics.{by_cases}
 use Rattle.qdimacs.specs.Bytes.{is_digit, value}
@@ -17,13 +20,16 @@ use Rattle.why.specs.Arguments.{bad, number_in, with_digit}
 
 -- One digit, as the code tests it --------------------------------------------------------------------------------
 module _ (n b : ℕ) where
-  pub with-low : b < 48 → bad ≡ with_digit n b
+  with-low : b < 48 → bad ≡ with_digit n b
   unfolding with_digit
   with-low h = rw (digit_low b h)
 
-  pub with-high : 57 < b → bad ≡ with_digit n b
+  with-high : 57 < b → bad ≡ with_digit n b
   unfolding with_digit
   with-high h = rw (digit-high b h)
+
+  pub with-none : IsNotAsciiDigit b → bad ≡ with_digit n b
+  with-none h = elim h [ inl l ↦ with-low l | inr l ↦ with-high l ]
 
   with-long : is_digit b ≡ true → 999 < n → bad ≡ with_digit n b
   unfolding with_digit
@@ -75,47 +81,31 @@ short (a ∷ b ∷ c ∷ d ∷ []) h =
     (omega arith, λ p. (omega (arith, digit-range a p), λ q. (omega (arith, digit-range a p, digit-range b q), λ r. (omega (arith, digit-range a p, digit-range b q, digit-range c r), λ s. tt))))
 short (a ∷ b ∷ c ∷ d ∷ e ∷ w) h = absurd (omega arith)
 
-digits-snoc : (n : ℕ) (w : List ℕ) (b : ℕ) → digits n (w ++ (b ∷ [])) ≡ with_digit (digits n w) b
-unfolding digits
-digits-snoc n [] b = refl
-digits-snoc n (a ∷ w) b = digits-snoc (with_digit n a) w b
+-- The digits one after the other ----------------------------------------------------------------------------------
+-- n and the digits from place i on come to what all of them come to
+pub Rest : ℕ → ℕ → List ℕ → Type 0
+Rest n i w = digits n (drop i w) ≡ digits 0 w
 
--- The first bytes of four, one after the other -----------------------------------------------------------------
-module _ (f : List ℕ) (e : length f ≡ 4) where
-  next : (j x y : ℕ) → x ≡ digits 0 (take j f) → j < 4 → y ≡ with_digit x (get_or f j 0) → y ≡ digits 0 (take (suc j) f)
-  next j x y p h q =
-      q
-      ∙ ap (λ (m : ℕ). with_digit m (get_or f j 0)) p
-      ∙ sym (digits-snoc 0 (take j f) (get_or f j 0))
-      ∙ ap (λ (w : List ℕ). digits 0 w) (sym (take-suc f j 0 (omega arith)))
+pub rest-first : (w : List ℕ) → Rest 0 0 w
+unfolding Rest
+rest-first w = refl
 
-  all : (n j x : ℕ) → n ≡ j → n ≤ 4 → x ≡ digits 0 (take j f) → x ≡ number_in (take n f)
-  unfolding number_in
-  all n j x s h p = rw s (p ∙ digits_are 0 (take j f) (short (take j f) (omega (arith, length-take j f))))
+-- one digit more
+step : (n i : ℕ) (w : List ℕ) → i < length w → Rest n i w → digits (with_digit n (get_or w i 0)) (drop (i + 1) w) ≡ digits 0 w
+unfolding Rest digits
+step n i w h r = rw add-one (rw (drop-cons w i 0 h) at r)
 
-  module _ (n a : ℕ) (p : a ≡ with_digit 0 (get_or f 0 0)) where
-    first : a ≡ digits 0 (take 1 f)
-    unfolding digits
-    first = next 0 0 a refl (omega arith) p
+pub rest-next : (n i m : ℕ) (w : List ℕ) → i < length w → Rest n i w → m ≡ with_digit n (get_or w i 0) → Rest m (i + 1) w
+unfolding Rest
+rest-next n i m w h r e = rw e (step n i w h r)
 
-    pub one : 0 < n → n ≤ 1 → a ≡ number_in (take n f)
-    one k h = all n 1 a (omega arith) (omega arith) first
+all-digits : (w : List ℕ) → length w ≤ 4 → digits 0 w ≡ number_in w
+unfolding number_in
+all-digits w h = digits_are 0 w (short w h)
 
-    module _ (b : ℕ) (q : b ≡ with_digit a (get_or f 1 0)) where
-      second : b ≡ digits 0 (take 2 f)
-      second = next 1 a b first (omega arith) q
+pub rest-stop : (n i : ℕ) (w : List ℕ) → i < length w → length w ≤ 4 → Rest n i w → bad ≡ with_digit n (get_or w i 0) → bad ≡ number_in w
+rest-stop n i w h l r e = sym (digits-bad (drop (i + 1) w)) ∙ ap (λ (m : ℕ). digits m (drop (i + 1) w)) e ∙ step n i w h r ∙ all-digits w l
 
-      pub two : 1 < n → n ≤ 2 → b ≡ number_in (take n f)
-      two k h = all n 2 b (omega arith) (omega arith) second
-
-      module _ (c : ℕ) (r : c ≡ with_digit b (get_or f 2 0)) where
-        third : c ≡ digits 0 (take 3 f)
-        third = next 2 b c second (omega arith) r
-
-        pub three : 2 < n → n ≤ 3 → c ≡ number_in (take n f)
-        three k h = all n 3 c (omega arith) (omega arith) third
-
-        pub four : (d : ℕ) → d ≡ with_digit c (get_or f 3 0) → 3 < n → d ≡ number_in (take n f)
-        four d s k =
-            rw (take_all n f (omega arith), sym (take_all 4 f (omega arith)))
-            (all 4 4 d refl (omega arith) (next 3 c d third (omega arith) s))
+pub rest-last : (n i : ℕ) (w : List ℕ) → length w ≤ i → length w ≤ 4 → Rest n i w → n ≡ number_in w
+unfolding Rest digits
+rest-last n i w h l r = (rw (drop_of_length-le w h) at r) ∙ all-digits w l

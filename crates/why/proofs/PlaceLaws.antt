@@ -1,6 +1,6 @@
 -- What the code finds in the tables.
 -- Assumes nothing.
-use Prim.Native.Nat.{ℕ, zero, suc, ◌+◌, ◌*◌, ◌%◌, ◌/◌, ◌≤◌, ◌<◌}
+use Prim.Native.Nat.{ℕ, zero, suc, ◌+◌, ◌*◌, ◌≤◌, ◌<◌}
 use mathlib.Core.Path.{◌≡◌, refl, sym, ap, ◌∙◌}
 use mathlib.Core.Bool.{Bool, true, false}
 use mathlib.Core.List.{List, ◌∷◌}
@@ -11,7 +11,7 @@ use lib.ListN.{length, get_or, take, drop, length-take, get_or-eq_default, drop_
 use lib.Seq.{get_or-take, get_or-drop}
 use Rattle.meaning.specs.Lists.{has}
 use Rattle.meaning.specs.Formula.{universal}
-use Rattle.meaning.proofs.Basics.{by_cases, iff, eqb-true, eqb-eq, eqb-ne, eqb-false}
+use Rattle.meaning.proofs.Basics.{by_cases, eqb-true, eqb-false}
 use Rattle.table.specs.Lent.{named}
 use Rattle.table.specs.declared.Counts.{Counts}
 use Rattle.table.proofs.TestLaws.{has-found, has-turn, has_end}
@@ -32,16 +32,6 @@ module _ (first second : List ℕ) (c : Counts) (i : ℕ) where
   place-first h e = rw e (sym (get_or-take 1023 first i 0 (omega arith)))
 
 -- A variable with an `a` -----------------------------------------------------------------------------------------
-module _ (x v : ℕ) where
-  pub entry-odd : x % 2 ≡ 1 → eqb (x / 2) v ≡ eqb (2 * v + 1) x
-  entry-odd h =
-      iff (eqb (x / 2) v) (eqb (2 * v + 1) x)
-      (λ e. eqb-eq {m = 2 * v + 1} {n = x} (omega (arith, eqb-true (x / 2) v e)))
-      (λ e. eqb-eq {m = x / 2} {n = v} (omega (arith, eqb-true (2 * v + 1) x e)))
-
-  pub entry-even : (x % 2 ≡ 1 → ⊥) → false ≡ eqb (2 * v + 1) x
-  entry-even h = sym (eqb-ne (2 * v + 1) x (λ e. h (omega arith)))
-
 -- the loop over all places: past the part for the prefix there are zeros
 module _ (first second : List ℕ) (c : Counts) (v i : ℕ) (inv : has (2 * v + 1) (prefix_counted first second c) ≡ has (2 * v + 1) (drop i (prefix_counted first second c))) where
   pub over : c.variables ≤ i → false ≡ universal (prefix_counted first second c) v

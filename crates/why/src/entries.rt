@@ -1,66 +1,65 @@
 // The step that a log entry calls, in words.
-use shows::{decimal, hex, say};
-use std::io;
+use std::fmt;
 
-fn number(rt: &impl Print, n: u32) -> io::Result<()> {
-    decimal(rt, n as u64)
+// A step, with the clauses or the variable that it is made on.
+#[derive(Drop)]
+enum Step {
+    Unit(u32),
+    Pure(u32),
+    Subsume(u32, u32),
+    Strengthen(u32, u32),
+    Equality(u32, u32),
+    Resolve(u32),
+    Expand(u32),
 }
 
-fn on_clause(rt: &impl Print, word: &[u8], a: u32) -> io::Result<()> {
-    say(rt, word)?;
-    say(rt, b" of clause ")?;
-    number(rt, a)
+// An entry that calls no step.
+#[derive(Drop)]
+struct NoStep;
+
+impl TryFrom<u32> for Step {
+    type Error = NoStep;
+
+    fn try_from(entry: u32) -> Result<Step, NoStep> {
+        let a = entry / 262144 % 2048;
+        let b = entry / 128 % 2048;
+        match entry / 536870912 {
+            1 => Ok(Step::Unit(a)),
+            2 => Ok(Step::Pure(a)),
+            3 => Ok(Step::Subsume(a, b)),
+            4 => Ok(Step::Strengthen(a, b)),
+            5 => Ok(Step::Equality(a, b)),
+            6 => Ok(Step::Resolve(a)),
+            7 => Ok(Step::Expand(a)),
+            _ => Err(NoStep),
+        }
+    }
 }
 
-fn on_variable(rt: &impl Print, word: &[u8], a: u32) -> io::Result<()> {
-    say(rt, word)?;
-    say(rt, b" of variable ")?;
-    number(rt, a)
+impl fmt::Display for Step {
+    fn fmt<W: fmt::Write>(&self, f: &mut fmt::Formatter<W>) -> fmt::Result {
+        match self {
+            Step::Unit(a) => write!(f, "`unit` of clause {a}"),
+            Step::Pure(a) => write!(f, "`pure` of variable {a}"),
+            Step::Subsume(a, b) => write!(f, "`subsume` of clauses {a} and {b}"),
+            Step::Strengthen(a, b) => write!(f, "`strengthen` of clauses {a} and {b}"),
+            Step::Equality(a, b) => write!(f, "`equality` of clauses {a} and {b}"),
+            Step::Resolve(a) => write!(f, "`resolve` of variable {a}"),
+            Step::Expand(a) => write!(f, "`expand` of variable {a}"),
+        }
+    }
 }
 
-fn on_clauses(rt: &impl Print, word: &[u8], a: u32, b: u32) -> io::Result<()> {
-    say(rt, word)?;
-    say(rt, b" of clauses ")?;
-    number(rt, a)?;
-    say(rt, b" and ")?;
-    number(rt, b)
-}
+// An entry, shown by its step and as it stands in a log: eight hexadecimal digits. A reason names no entry without a step.
+#[derive(Drop)]
+pub struct Entry(pub u32);
 
-// A step of kinds 1 to 4 or 5 to 7, by the rules' names.
-fn show_early(rt: &impl Print, kind: u32, a: u32, b: u32) -> io::Result<()> {
-    if kind == 1 {
-        return on_clause(rt, b"`unit`", a);
+impl fmt::Display for Entry {
+    fn fmt<W: fmt::Write>(&self, f: &mut fmt::Formatter<W>) -> fmt::Result {
+        let entry = self.0;
+        match Step::try_from(entry) {
+            Ok(step) => write!(f, "{step} (log entry {entry:08x})"),
+            Err(NoStep) => write!(f, "no step (log entry {entry:08x})"),
+        }
     }
-    if kind == 2 {
-        return on_variable(rt, b"`pure`", a);
-    }
-    if kind == 3 {
-        return on_clauses(rt, b"`subsume`", a, b);
-    }
-    on_clauses(rt, b"`strengthen`", a, b)
-}
-
-fn show_late(rt: &impl Print, kind: u32, a: u32, b: u32) -> io::Result<()> {
-    if kind == 5 {
-        return on_clauses(rt, b"`equality`", a, b);
-    }
-    if kind == 6 {
-        return on_variable(rt, b"`resolve`", a);
-    }
-    on_variable(rt, b"`expand`", a)
-}
-
-// The step, and the entry as it stands in a log: eight hexadecimal digits.
-pub fn show_step(rt: &impl Print, entry: u32) -> io::Result<()> {
-    let kind = entry / 536870912;
-    let a = entry / 262144 % 2048;
-    let b = entry / 128 % 2048;
-    if kind < 5 {
-        show_early(rt, kind, a, b)?;
-    } else {
-        show_late(rt, kind, a, b)?;
-    }
-    say(rt, b" (log entry ")?;
-    hex(rt, entry)?;
-    say(rt, b")")
 }

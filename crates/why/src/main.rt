@@ -11,24 +11,9 @@ mod sentences;
 
 use arguments::{is_given, number_at};
 use prefix::variable_at;
-use rimhlada::{Counts, Reading};
-use sentences::{show_left, show_reason};
-use shows::{decimal, read_full, say};
+use rimhlada::{Counts, ReasonAnswer};
+use sentences::{Left, Reason};
 use std::io;
-
-fn show_refusal(rt: &impl Print, number: u8, offset: usize) -> io::Result<()> {
-    say(rt, b"r ")?;
-    decimal(rt, number as u64)?;
-    say(rt, b" ")?;
-    decimal(rt, offset as u64)?;
-    say(rt, b"\n")
-}
-
-fn show_absent(rt: &impl Print, v: usize) -> io::Result<()> {
-    say(rt, b"Variable ")?;
-    decimal(rt, v as u64)?;
-    say(rt, b" is not in the formula that is left.\n")
-}
 
 fn ask(
     rt: &impl Print,
@@ -38,12 +23,18 @@ fn ask(
     v: usize,
     allowance: usize,
 ) -> io::Result<()> {
-    let r = rimhlada::reason(first, second, c, v, allowance);
-    let answer = r.answer;
-    if answer.number() == 10 {
-        return show_absent(rt, v);
+    let answer = rimhlada::reason(first, second, c, v, allowance).answer;
+    if matches!(answer, ReasonAnswer::NotPermitted) {
+        return println!(rt; "Variable {v} is not in the formula that is left.");
     }
-    show_reason(rt, first, second, c, v, allowance, answer)
+    rt.println(Reason {
+        first,
+        second,
+        counts: c,
+        variable: v,
+        allowance,
+        answer,
+    })
 }
 
 // Each variable, from the left.
@@ -54,15 +45,12 @@ fn ask_all(
     c: Counts,
     allowance: usize,
 ) -> io::Result<()> {
-    let n = c.variables;
-    if n == 0 {
-        return say(rt, b"No variable is left.\n");
+    if c.variables == 0 {
+        return println!(rt; "No variable is left.");
     }
-    let mut i = 0;
-    while i < n {
+    for i in 0..c.variables {
         let v = variable_at(first, second, c, i);
         ask(rt, first, second, c, v, allowance)?;
-        i += 1;
     }
     Ok(())
 }
@@ -76,59 +64,39 @@ fn run_and_ask(
     allowance: usize,
 ) -> io::Result<()> {
     let mut log = [0u8; 32768];
-    let r = rimhlada::run(first, second, c, allowance, 8192, &mut log);
-    let d = r.counts;
-    show_left(rt, d)?;
+    let d = rimhlada::run(first, second, c, allowance, 8192, &mut log).counts;
+    rt.println(Left(d))?;
     if v == 0 {
-        return ask_all(rt, first, second, d, allowance);
+        ask_all(rt, first, second, d, allowance)
+    } else {
+        ask(rt, first, second, d, v, allowance)
     }
-    ask(rt, first, second, d, v, allowance)
 }
 
-// One byte more than a text may have, so that a longer one is seen.
-fn read_input(
-    rt: &impl Input,
-    first: &mut [u16; 11261],
-    second: &mut [u16; 11261],
-) -> io::Result<Reading> {
-    let mut text = [0u8; 65537];
-    let mut input = rt.reader();
-    let n = read_full(&mut input, &mut text)?;
-    Ok(rimhlada::read(&text[..n], first, second))
-}
-
-fn explain(rt: &(impl Input + Print), v: usize, allowance: usize) -> io::Result<()> {
+fn explain<R: Input + Print + Alloc>(rt: &R, v: usize, allowance: usize) -> io::Result<()> {
     let mut first = [0u16; 11261];
     let mut second = [0u16; 11261];
-    let r = read_input(rt, &mut first, &mut second)?;
-    let answer = r.answer;
-    let number = answer.number();
+    let text = shows::read_text(rt)?;
+    let r = rimhlada::read(&text, &mut first, &mut second);
+    let number = r.answer.number();
+    let offset = r.offset;
     if number != 0 {
-        return show_refusal(rt, number, r.offset);
+        return println!(rt; "r {number} {offset}");
     }
     run_and_ask(rt, &mut first, &mut second, r.counts, v, allowance)
 }
 
 fn main(rt: HostRuntime) -> io::Result<()> {
-    let v = number_at(&rt, 1);
-    if 1023 < v {
-        return say(
-            &rt,
-            b"why: the first argument is a variable, 1 to 1023, or 0 for each that is left\n",
+    let Some(v) = number_at(&rt, 1).filter(|v| *v <= 1023) else {
+        return println!(&rt;
+            "why: the first argument is a variable, 1 to 1023, or 0 for each that is left"
         );
-    }
-    let allowance = number_at(&rt, 2);
-    if 1000 < allowance {
-        return say(
-            &rt,
-            b"why: the second argument is the allowance, 0 to 1000\n",
-        );
-    }
+    };
+    let Some(allowance) = number_at(&rt, 2).filter(|a| *a <= 1000) else {
+        return println!(&rt; "why: the second argument is the allowance, 0 to 1000");
+    };
     if is_given(&rt, 3) {
-        return say(
-            &rt,
-            b"why: there are two arguments at most, a variable and the allowance\n",
-        );
+        return println!(&rt; "why: there are two arguments at most, a variable and the allowance");
     }
     explain(&rt, v as usize, allowance as usize)
 }

@@ -3,7 +3,6 @@ ghost use Rattle.std.specs.Prelude.{◌+◌, ◌*◌, ◌≡◌, eqb, get_or};
 ghost use Rattle.meaning.specs.Formula.{var, universal};
 ghost use Rattle.why.specs.Places.{prefix_part, prefix_counted};
 
-use crate::clauses::wide;
 use rimhlada::Counts;
 
 // The number at place i; 0 past the prefix's part of the table.
@@ -14,9 +13,9 @@ fn number_at_place(first: &[u16; 11261], second: &[u16; 11261], c: Counts, i: us
         return 0;
     }
     if c.second {
-        return wide(second[i]);
+        return usize::from(second[i]);
     }
-    wide(first[i])
+    usize::from(first[i])
 }
 
 // The variable at place i.
@@ -30,23 +29,17 @@ pub fn variable_at(first: &[u16; 11261], second: &[u16; 11261], c: Counts, i: us
 fn is_universal_number(x: usize, v: usize) -> bool
     ensures { result ≡ eqb (2 * v + 1) x }
 {
-    if x % 2 == 1 {
-        return x / 2 == v;
-    }
-    false
+    x % 2 == 1 && x / 2 == v
 }
 
 // Does variable v stand in the prefix with an `a`?
 pub fn is_universal(first: &[u16; 11261], second: &[u16; 11261], c: Counts, v: usize) -> bool
     ensures { result ≡ universal (prefix_counted first.now second.now c) v }
 {
-    let n = c.variables;
-    let mut i = 0;
-    while i < n {
+    for i in 0..c.variables {
         if is_universal_number(number_at_place(first, second, c, i), v) {
             return true;
         }
-        i += 1;
     }
     false
 }

@@ -1,173 +1,125 @@
 // A plain sentence for each reason. An `e` variable is chosen, an `a` variable comes in, in the order of the quantifier lines.
-use crate::clauses::show_clause;
-use crate::entries::show_step;
+use crate::clauses::clause_at;
+use crate::entries::Entry;
 use crate::prefix::is_universal;
 use rimhlada::{Counts, ReasonAnswer};
-use shows::{decimal, say};
-use std::io;
-
-fn number(rt: &impl Print, n: usize) -> io::Result<()> {
-    decimal(rt, n as u64)
-}
+use std::fmt;
 
 // What the sentences speak of.
-pub fn show_left(rt: &impl Print, c: Counts) -> io::Result<()> {
-    say(rt, b"Left: variables ")?;
-    number(rt, c.variables)?;
-    say(rt, b", clauses ")?;
-    number(rt, c.clauses)?;
-    say(rt, b" (counted from 0), literals ")?;
-    number(rt, c.literals)?;
-    say(rt, b"; the weight is the sum of the three.\n")
-}
+#[derive(Drop)]
+pub struct Left(pub Counts);
 
-// The two weights.
-fn show_weights(rt: &impl Print, m: usize, n: usize) -> io::Result<()> {
-    say(rt, b": weight ")?;
-    number(rt, m)?;
-    say(rt, b" now, ")?;
-    number(rt, n)?;
-    say(rt, b" then")
-}
-
-// A variable that a step would remove is still there: only a run that was stopped leaves one.
-fn show_next(rt: &impl Print, entry: u32) -> io::Result<()> {
-    say(
-        rt,
-        b"the run stopped at its limit of steps; the next one is ",
-    )?;
-    show_step(rt, entry)?;
-    say(rt, b".\n")
-}
-
-fn show_own(rt: &impl Print, entry: u32) -> io::Result<()> {
-    say(
-        rt,
-        b"the run stopped at its limit of steps; nothing else keeps it, and the step that takes it out is ",
-    )?;
-    show_step(rt, entry)?;
-    say(rt, b".\n")
-}
-
-// The variable y of a clause with v that is too far right, and u, the first universal right of v.
-fn show_tied<'a>(
-    rt: &impl Print,
-    first: &'a [u16; 11261],
-    second: &'a [u16; 11261],
-    c: Counts,
-    v: usize,
-    y: usize,
-    u: usize,
-) -> io::Result<()> {
-    if y == u {
-        say(rt, b"the `a` variable ")?;
-        number(rt, u)?;
-        say(rt, b", which comes in only after ")?;
-        number(rt, v)?;
-        return say(rt, b" is chosen.\n");
+impl fmt::Display for Left {
+    fn fmt<W: fmt::Write>(&self, f: &mut fmt::Formatter<W>) -> fmt::Result {
+        let c = self.0;
+        let m = c.variables;
+        let n = c.clauses;
+        let k = c.literals;
+        write!(
+            f,
+            "Left: variables {m}, clauses {n} (counted from 0), literals {k}; the weight is the sum of the three."
+        )
     }
-    if is_universal(first, second, c, y) {
-        say(rt, b"the `a` variable ")?;
-        number(rt, y)?;
-        say(rt, b", which comes in, like ")?;
-        number(rt, u)?;
-        say(rt, b" before it, only after ")?;
-        number(rt, v)?;
-        return say(rt, b" is chosen.\n");
-    }
-    number(rt, y)?;
-    say(rt, b", which is chosen only after the `a` variable ")?;
-    number(rt, u)?;
-    say(rt, b" has come in.\n")
 }
 
-fn show_far<'a>(
-    rt: &impl Print,
-    first: &'a [u16; 11261],
-    second: &'a [u16; 11261],
-    c: Counts,
-    v: usize,
-    i: usize,
-    y: usize,
-    u: usize,
-) -> io::Result<()> {
-    say(rt, b"clause ")?;
-    number(rt, i)?;
-    say(rt, b" (")?;
-    show_clause(rt, first, second, c, i)?;
-    say(rt, b") ties it to ")?;
-    show_tied(rt, first, second, c, v, y, u)
-}
-
-// Why variable v is left. The tables come from the reader and a run, the allowance is in range and the caller has sent off a variable that is
+// Why a variable is left. The tables come from the reader and a run, the allowance is in range and the caller has sent off a variable that is
 // not there, so no refusal is seen.
-pub fn show_reason<'a>(
-    rt: &impl Print,
-    first: &'a [u16; 11261],
-    second: &'a [u16; 11261],
-    c: Counts,
-    v: usize,
-    allowance: usize,
-    answer: ReasonAnswer,
-) -> io::Result<()> {
-    say(rt, b"Variable ")?;
-    number(rt, v)?;
-    say(rt, b" stays: ")?;
-    match answer {
-        ReasonAnswer::True => say(
-            rt,
-            b"the formula is true whatever its value, since no clause is left.\n",
-        ),
-        ReasonAnswer::False => say(
-            rt,
-            b"the formula is false whatever its value, since a clause without literals is left.\n",
-        ),
-        ReasonAnswer::NextEntry(e) => show_next(rt, e),
-        ReasonAnswer::OwnEntry(e) => show_own(rt, e),
-        ReasonAnswer::TooFarRight(i, y, u) => show_far(rt, first, second, c, v, i, y, u),
-        ReasonAnswer::NotLighter(m, n) => {
-            say(
-                rt,
-                b"taking it out, its clauses joined in pairs, would not make the formula lighter",
-            )?;
-            show_weights(rt, m, n)?;
-            say(rt, b".\n")
-        }
-        ReasonAnswer::Between(e, u) => {
-            say(rt, b"after it ")?;
-            number(rt, e)?;
-            say(rt, b" is chosen, and after that the `a` variable ")?;
-            number(rt, u)?;
-            say(
-                rt,
-                b" comes in, so its two values can't be written out yet.\n",
+#[derive(Drop)]
+pub struct Reason<'a> {
+    pub first: &'a [u16; 11261],
+    pub second: &'a [u16; 11261],
+    pub counts: Counts,
+    pub variable: usize,
+    pub allowance: usize,
+    pub answer: ReasonAnswer,
+}
+
+impl Reason<'_> {
+    // The variable y of clause i that is too far right, and u, the first universal right of the variable.
+    fn write_tie<W: fmt::Write>(
+        &self,
+        f: &mut fmt::Formatter<W>,
+        i: usize,
+        y: usize,
+        u: usize,
+    ) -> fmt::Result {
+        let v = self.variable;
+        let clause = clause_at(self.first, self.second, self.counts, i);
+        write!(f, "clause {i} ({clause}) ties it to ")?;
+        if y == u {
+            write!(
+                f,
+                "the `a` variable {u}, which comes in only after {v} is chosen."
+            )
+        } else if is_universal(self.first, self.second, self.counts, y) {
+            write!(
+                f,
+                "the `a` variable {y}, which comes in, like {u} before it, only after {v} is chosen."
+            )
+        } else {
+            write!(
+                f,
+                "{y}, which is chosen only after the `a` variable {u} has come in."
             )
         }
-        ReasonAnswer::TooHeavy(m, n) => {
-            say(
-                rt,
-                b"writing out its two values would make the formula too heavy",
-            )?;
-            show_weights(rt, m, n)?;
-            say(rt, b", and a rise of at most ")?;
-            number(rt, allowance)?;
-            say(rt, b" is allowed.\n")
+    }
+}
+
+impl fmt::Display for Reason<'_> {
+    fn fmt<W: fmt::Write>(&self, f: &mut fmt::Formatter<W>) -> fmt::Result {
+        let v = self.variable;
+        write!(f, "Variable {v} stays: ")?;
+        match self.answer {
+            ReasonAnswer::True => f.write_str(
+                "the formula is true whatever its value, since no clause is left.",
+            ),
+            ReasonAnswer::False => f.write_str(
+                "the formula is false whatever its value, since a clause without literals is left.",
+            ),
+            // A variable that a step would remove is still there: only a run that was stopped leaves one.
+            ReasonAnswer::NextEntry(e) => {
+                let entry = Entry(e);
+                write!(
+                    f,
+                    "the run stopped at its limit of steps; the next one is {entry}."
+                )
+            }
+            ReasonAnswer::OwnEntry(e) => {
+                let entry = Entry(e);
+                write!(
+                    f,
+                    "the run stopped at its limit of steps; nothing else keeps it, and the step that takes it out is {entry}."
+                )
+            }
+            ReasonAnswer::TooFarRight(i, y, u) => self.write_tie(f, i, y, u),
+            ReasonAnswer::NotLighter(m, n) => write!(
+                f,
+                "taking it out, its clauses joined in pairs, would not make the formula lighter: weight {m} now, {n} then."
+            ),
+            ReasonAnswer::Between(e, u) => write!(
+                f,
+                "after it {e} is chosen, and after that the `a` variable {u} comes in, so its two values can't be written out yet."
+            ),
+            ReasonAnswer::TooHeavy(m, n) => {
+                let allowance = self.allowance;
+                write!(
+                    f,
+                    "writing out its two values would make the formula too heavy: weight {m} now, {n} then, and a rise of at most {allowance} is allowed."
+                )
+            }
+            ReasonAnswer::OverVariables => {
+                f.write_str("writing out its two values would need a variable number over 1023.")
+            }
+            ReasonAnswer::OverClauses => {
+                f.write_str("taking it out would leave more than 2047 clauses.")
+            }
+            ReasonAnswer::OverLiterals => {
+                f.write_str("taking it out would leave more than 8191 literals.")
+            }
+            ReasonAnswer::Length => f.write_str("refused, 1."),
+            ReasonAnswer::Malformed => f.write_str("refused, 2."),
+            ReasonAnswer::Allowance => f.write_str("refused, 13."),
+            ReasonAnswer::NotPermitted => f.write_str("refused, 10."),
         }
-        ReasonAnswer::OverVariables => say(
-            rt,
-            b"writing out its two values would need a variable number over 1023.\n",
-        ),
-        ReasonAnswer::OverClauses => say(
-            rt,
-            b"taking it out would leave more than 2047 clauses.\n",
-        ),
-        ReasonAnswer::OverLiterals => say(
-            rt,
-            b"taking it out would leave more than 8191 literals.\n",
-        ),
-        ReasonAnswer::Length => say(rt, b"refused, 1.\n"),
-        ReasonAnswer::Malformed => say(rt, b"refused, 2.\n"),
-        ReasonAnswer::Allowance => say(rt, b"refused, 13.\n"),
-        ReasonAnswer::NotPermitted => say(rt, b"refused, 10.\n"),
     }
 }

@@ -10,15 +10,15 @@ use borrow.Author.Tests.{leb-true, le-leb}
 use lib.Dec.{leb}
 use lib.ListN.{length, take, drop}
 use lib.Seq.{take_at}
-use Rattle.judging.specs.declared.Asked.TheVariants as said
+use Rattle.judging.specs.declared.Unfit.TheVariants as said
+use Rattle.std.specs.Prelude.{Ok, Err}
 use Rattle.writer.specs.declared.WriteAnswer.TheVariants as says
 use Rattle.meaning.specs.WellFormed.{well_formed, fits, max_text}
 use Rattle.qdimacs.specs.Read.{good, read}
 use Rattle.table.specs.Table.{decode}
 use Rattle.table.specs.Lent.{named, right_lengths}
-use Rattle.judging.specs.Check.{layout_holds, good_table, judged, asked}
+use Rattle.judging.specs.Check.{layout_holds, good_table, Asked, judged, asked}
 use Rattle.table.specs.declared.Counts.{Counts}
-use Rattle.judging.specs.declared.Asked.{Asked}
 use Rattle.writer.specs.Written.{answer_for, bytes_for, output_for, writing_for, text_of, answer_of, writing_of, output_of, Wrote}
 use Rattle.writer.specs.declared.Writing.{Writing}
 use Rattle.meaning.proofs.Basics.{by_cases, and_l, and_r}
@@ -27,28 +27,28 @@ use Rattle.qdimacs.proofs.Trip.{round_trip}
 use Rattle.judging.proofs.GoodLaws.{true-holds}
 
 -- a call is answered Written only if nothing is said against the tables and the text has room
-answered : (a : Asked) (text out : List ℕ) → answer_for a text out ≡ says.Written → (a ≡ said.Given) × (length text ≤ length out)
+answered : (a : Asked) (text out : List ℕ) → answer_for a text out ≡ says.Written → (a ≡ Ok tt) × (length text ≤ length out)
 unfolding answer_for
-answered said.Given text out e = (
+answered (Ok u) text out e = (
   refl,
   by_cases (leb (length text) (length out)) (λ h. leb-true (length text) (length out) h)
       (λ h. let z : says.NoRoom ≡ says.Written = rw h at e in let w : ◌≡◌ {A = ℕ} 0 1 = cc in absurd (omega arith)),
 )
-answered said.WrongLength text out e = let w : ◌≡◌ {A = ℕ} 0 1 = cc in absurd (omega arith)
-answered said.Malformed text out e = let w : ◌≡◌ {A = ℕ} 0 1 = cc in absurd (omega arith)
+answered (Err said.WrongLength) text out e = let w : ◌≡◌ {A = ℕ} 0 1 = cc in absurd (omega arith)
+answered (Err said.Malformed) text out e = let w : ◌≡◌ {A = ℕ} 0 1 = cc in absurd (omega arith)
 
 module _ (first second : List ℕ) (c : Counts) where
   -- nothing is said against the tables: the one that the record names is good; and the other way, where the lengths are right
-  pub given-good : asked first second c ≡ said.Given → good_table (named first second c) c ≡ true
+  pub given-good : asked first second c ≡ Ok tt → good_table (named first second c) c ≡ true
   unfolding asked judged
   given-good e =
       by_cases (good_table (named first second c) c) (λ g. g)
       (λ g.
       by_cases (right_lengths first second)
-      (λ l. let z : said.Malformed ≡ said.Given = rw (l, g) at e in let w : ◌≡◌ {A = ℕ} 0 1 = cc in absurd (omega arith))
-      (λ l. let z : said.WrongLength ≡ said.Given = rw l at e in let w : ◌≡◌ {A = ℕ} 0 1 = cc in absurd (omega arith)))
+      (λ l. let z : ◌≡◌ {A = Asked} (Err said.Malformed) (Ok tt) = rw (l, g) at e in let w : ◌≡◌ {A = ℕ} 0 1 = cc in absurd (omega arith))
+      (λ l. let z : ◌≡◌ {A = Asked} (Err said.WrongLength) (Ok tt) = rw l at e in let w : ◌≡◌ {A = ℕ} 0 1 = cc in absurd (omega arith)))
 
-  pub good-given : right_lengths first second ≡ true → good_table (named first second c) c ≡ true → asked first second c ≡ said.Given
+  pub good-given : right_lengths first second ≡ true → good_table (named first second c) c ≡ true → asked first second c ≡ Ok tt
   unfolding asked judged
   good-given l g = rw (l, g)
 

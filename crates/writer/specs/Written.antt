@@ -1,15 +1,15 @@
 -- Writing into a lent output (document 01, "Reading and writing", "Numbers given back"): the answer, the number of bytes and
 -- the output after it, for any two tables, any record and any output.
 -- Assumes nothing.
-use Rattle.std.specs.Prelude.{◌≡◌, cond, List, ◌++◌, ℕ, leb, length, drop}
-use Rattle.judging.specs.declared.Asked.TheVariants as said
+use Rattle.std.specs.Prelude.{◌≡◌, cond, List, ◌++◌, ℕ, leb, length, drop, Ok, Err}
+use Rattle.judging.specs.declared.Unfit.{Unfit}
+use Rattle.judging.specs.declared.Unfit.TheVariants as said
 use Rattle.writer.specs.declared.WriteAnswer.TheVariants as says
 use Rattle.qdimacs.specs.Write.{write}
 use Rattle.table.specs.Table.{decode}
 use Rattle.table.specs.Lent.{named, right_lengths}
-use Rattle.judging.specs.Check.{good_table, asked}
+use Rattle.judging.specs.Check.{good_table, Asked, asked}
 use Rattle.table.specs.declared.Counts.{Counts}
-use Rattle.judging.specs.declared.Asked.{Asked}
 use Rattle.writer.specs.declared.WriteAnswer.{WriteAnswer}
 use Rattle.writer.specs.declared.Writing.{Writing}
 
@@ -23,10 +23,14 @@ most_text = 71679
 
 -- One call, by what is said of the tables, the text and the output ---------------------------------------------
 -- "Order: 1, 2, .. 11": NO ROOM is an "output buffer short"
+-- what is answered to a call that is refused for the tables
+abbrev pub unfit_answer : Unfit → WriteAnswer
+unfit_answer said.WrongLength = says.Length
+unfit_answer said.Malformed = says.Malformed
+
 unfoldable pub answer_for : Asked → List ℕ → List ℕ → WriteAnswer
-answer_for said.Given text out = cond (leb (length text) (length out)) says.Written says.NoRoom
-answer_for said.WrongLength text out = says.Length
-answer_for said.Malformed text out = says.Malformed
+answer_for (Ok u) text out = cond (leb (length text) (length out)) says.Written says.NoRoom
+answer_for (Err u) text out = unfit_answer u
 
 -- how many bytes are written
 unfoldable pub bytes_for : WriteAnswer → List ℕ → ℕ

@@ -13,11 +13,9 @@ pub fn clauses_size(t: &[u16], c: Counts) -> usize
     requires { Held t.now c }
     ensures { (φ : Formula) → Holds φ t.now c → Sized (clause_lines φ.clauses) most_clauses result }
 {
-    let mut n: usize = 0;
-    let mut i = 0;
-    while i < c.clauses {
+    let mut n = 0;
+    for i in 0..c.clauses {
         n += clause_size(clause_at(t, c, i));
-        i += 1;
     }
     n
 }
@@ -28,10 +26,8 @@ pub fn write_clauses(out: &mut [u8], start: usize, t: &[u16], c: Counts) -> usiz
     ensures { (φ : Formula) → Holds φ t.now c → Written (clause_lines φ.clauses) start out.old out.new result }
 {
     let mut at = start;
-    let mut i = 0;
-    while i < c.clauses {
+    for i in 0..c.clauses {
         at = write_clause(out, at, clause_at(t, c, i));
-        i += 1;
     }
     at
 }

@@ -2,7 +2,6 @@
 ghost use Rattle.meaning.specs.Formula.{Formula};
 ghost use Rattle.qdimacs.specs.Write.{write};
 ghost use Rattle.table.specs.Table.{Holds, Held};
-ghost use Rattle.judging.specs.declared.Asked.TheVariants.{Given};
 ghost use Rattle.lines.specs.Written.{Room, Written, Sized};
 ghost use Rattle.writer.specs.Written.{most_text, Told};
 
@@ -38,7 +37,7 @@ fn write_text(out: &mut [u8], t: &[u16], c: Counts) -> usize
 // The text, unless the output is shorter: then nothing is written.
 pub fn write_held(t: &[u16], c: Counts, out: &mut [u8]) -> Writing
     requires { Held t.now c }
-    ensures { (φ : Formula) → Holds φ t.now c → Told Given (write φ) out.old result out.new }
+    ensures { (φ : Formula) → Holds φ t.now c → Told (Ok tt) (write φ) out.old result out.new }
 {
     if out.len() < text_size(t, c) {
         return Writing {

@@ -6,13 +6,14 @@ mod clauses;
 mod formula;
 
 ghost use Rattle.std.specs.Prelude.{◌≡◌};
-ghost use Rattle.writer.specs.Written.{write_number, Wrote};
+ghost use Rattle.writer.specs.Written.{write_number, unfit_answer, Wrote};
 
 use formula::write_held;
-use judging::{Asked, literals_answer};
+use judging::{Unfit, literals_answer, named};
 use table::Counts;
 
 // What comes of a call. No refusal: Written.
+// Kept: no Result, since a number of bytes comes back with every answer, and the definition Wrote speaks of both.
 #[derive(Clone, Copy)]
 pub enum WriteAnswer {
     Written,
@@ -42,28 +43,26 @@ pub struct Writing {
     pub bytes: usize,
 }
 
+impl From<Unfit> for WriteAnswer {
+    ghost from_gives = { λ unfit answer. answer ≡ unfit_answer unfit };
+
+    fn from(unfit: Unfit) -> Self {
+        match unfit {
+            Unfit::WrongLength => WriteAnswer::Length,
+            Unfit::Malformed => WriteAnswer::Malformed,
+        }
+    }
+}
+
 // The formula of the table that the record names. Any tables, any record, any output.
 pub fn write(first: &[u16], second: &[u16], c: Counts, out: &mut [u8]) -> Writing
     ensures { Wrote first.now second.now c out.old result out.new }
 {
     match literals_answer(first, second, c) {
-        Asked::Given => {
-            if c.second {
-                return write_held(second, c, out);
-            }
-            return write_held(first, c, out);
-        }
-        Asked::WrongLength => {
-            return Writing {
-                answer: WriteAnswer::Length,
-                bytes: 0,
-            };
-        }
-        Asked::Malformed => {
-            return Writing {
-                answer: WriteAnswer::Malformed,
-                bytes: 0,
-            };
-        }
+        Ok(()) => write_held(named(first, second, c), c, out),
+        Err(unfit) => Writing {
+            answer: unfit.into(),
+            bytes: 0,
+        },
     }
 }

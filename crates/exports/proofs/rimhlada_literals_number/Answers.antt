@@ -3,8 +3,8 @@
 use Rattle.exports.proofs.RecordLaws.{unknown-number, known-number}
 use Rattle.exports.proofs.rimhlada_literals_number.Goals as goal
 
-pub returns-then-counts-gt1 : goal.returns-then-counts-gt1
-returns-then-counts-gt1 c = unknown-number _ _ _ c.if-counts-gt1.true _ c.side_number.ensures
+pub returns-in_default : goal.returns-in_default
+returns-in_default c = unknown-number _ _ _ c.in_default.ensures _ c.side_number.ensures
 
 pub returns : goal.returns
-returns c = known-number _ _ _ c.if-counts-gt1.false _ c.counts_in-asked.ensures _ c.literals_number.ensures
+returns c = known-number _ _ _ c.in-Some.ensures.0 _ c.in-Some.ensures.1 _ c.literals_number.ensures

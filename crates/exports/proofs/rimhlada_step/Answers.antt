@@ -3,8 +3,8 @@
 use Rattle.exports.proofs.CallLaws.{no_step, stepped}
 use Rattle.exports.proofs.rimhlada_step.Goals as goal
 
-pub returns-then-counts-gt1 : goal.returns-then-counts-gt1
-returns-then-counts-gt1 c = no_step _ _ _ c.if-counts-gt1.true _ c.side_number.ensures _
+pub returns-in_default : goal.returns-in_default
+returns-in_default c = no_step _ _ _ c.in_default.ensures _ c.side_number.ensures _
 
 pub returns : goal.returns
-returns c = stepped _ _ _ c.if-counts-gt1.false _ c.counts_in-c.ensures _ _ _ _ _ _ c.step-x.ensures c.number.ensures c.give.ensures
+returns c = stepped _ _ _ c.in-Some.ensures.0 _ c.in-Some.ensures.1 _ _ _ _ _ _ c.step-x.ensures c.number.ensures c.give.ensures

@@ -1,23 +1,17 @@
 -- Tidied; dropped, or added.
 -- Assumes nothing.
-use mathlib.Core.Path.{sym}
-use native.Mathlib.Omega.{arith}
-use lib.Seq.{length-take-le}
 use Rattle.table.proofs.CloseLaws.{close-both, close-one}
 use Rattle.filter.proofs.ApartLaws.{apart-same}
 use Rattle.filter.proofs.close_stamped.Goals as goal
 
-pub returns-then-q-clause-became : goal.returns-then-q-clause-became
-returns-then-q-clause-became c = λ φ raw h g k d. close-both h raw _ _ (c.tidy_in-q.ensures.by_index raw φ.prefix d g k) c.if-q.true
+pub returns-in-Some-clause-became : goal.returns-in-Some-clause-became
+returns-in-Some-clause-became c = λ φ raw h g k d. close-one h raw _ _ (c.tidy_in.ensures.tidied raw φ.prefix d g k) _ c.in-Some.is _ _ (c.add_stamped.ensures.became φ h)
 
-pub returns-then-q-clause-by_index : goal.returns-then-q-clause-by_index
-returns-then-q-clause-by_index c = λ others d k q. apart-same k d q
+pub returns-in-Some-clause-by_index : goal.returns-in-Some-clause-by_index
+returns-in-Some-clause-by_index c = c.add_stamped.ensures.by_index
 
-pub slice_bounds-add_stamped-end-2 : goal.slice_bounds-add_stamped-end-2
-slice_bounds-add_stamped-end-2 c = sym (length-take-le _ _ (omega (arith, c.requires.pended.pends.room, c.tidy_in-q.ensures.size_bound, c.tidy_in-q.auto.scratch)))
+pub returns-in-None-clause-became : goal.returns-in-None-clause-became
+returns-in-None-clause-became c = λ φ raw h g k d. close-both h raw _ _ (c.tidy_in.ensures.tidied raw φ.prefix d g k) c.in-None.is
 
-pub returns-clause-became : goal.returns-clause-became
-returns-clause-became c = λ φ raw h g k d. close-one h raw _ _ (c.tidy_in-q.ensures.by_index raw φ.prefix d g k) c.if-q.false _ _ (c.add_stamped.ensures.became φ h)
-
-pub returns-clause-by_index : goal.returns-clause-by_index
-returns-clause-by_index c = c.add_stamped.ensures.by_index
+pub returns-in-None-clause-by_index : goal.returns-in-None-clause-by_index
+returns-in-None-clause-by_index c = λ others d k q. apart-same k d q

@@ -1,6 +1,5 @@
 -- The invariant: the stamps of the clauses so far are in.
 -- Assumes nothing.
-use Prim.Native.Nat.{◌-◌, ◌≤◌}
 use mathlib.Core.Path.{◌≡◌}
 use lib.ListN.{length}
 use Rattle.meaning.specs.Formula.{Formula}
@@ -9,7 +8,4 @@ use Rattle.filter.proofs.FilterLaws.{Covered}
 use Rattle.filter.proofs.cover.Given as goal
 
 abbrev pub invariant-loop-i : goal.invariant-loop-i
-invariant-loop-i l = (l.i ≤ l.c.clauses) × (length l.filter ≡ length l.initial.filter) × ((φ : Formula) → Holds φ l.t l.c → Covered φ.clauses l.i l.filter)
-
-abbrev pub decreases-loop-i : goal.decreases-loop-i
-decreases-loop-i l = l.c.clauses - l.i
+invariant-loop-i l = (length l.filter ≡ length l.initial.filter) × ((φ : Formula) → Holds φ l.t l.c → Covered φ.clauses l.i l.filter)

@@ -4,20 +4,8 @@ use native.Mathlib.Omega.{arith}
 use Rattle.flags.proofs.ZeroLaws.{flag_at, none-until}
 use Rattle.flags.proofs.seek.Goals as goal
 
-pub loop-i-init : goal.loop-i-init
-loop-i-init c = (omega arith, c.requires.0, λ k h l. absurd (omega (arith, h, l)))
-
-pub returns-then-to-i-clause-lower_bound : goal.returns-then-to-i-clause-lower_bound
-returns-then-to-i-clause-lower_bound c = (c.requires.0, omega arith)
-
-pub returns-then-to-i-clause-result_value : goal.returns-then-to-i-clause-result_value
-returns-then-to-i-clause-result_value c = λ h. absurd (omega (arith, h))
-
 pub returns-then-to-i-clause-by_index : goal.returns-then-to-i-clause-by_index
 returns-then-to-i-clause-by_index c = λ k f h. none-until _ _ _ c.zeros_from-zeros.ensures.by_index c.zeros_from-zeros.ensures.result_bound _ c.loop-i.invariant.2 k f (omega (arith, h, c.if-to-i.true))
-
-pub returns-then-bit-zeros-lt64-clause-lower_bound : goal.returns-then-bit-zeros-lt64-clause-lower_bound
-returns-then-bit-zeros-lt64-clause-lower_bound c = (omega (arith, c.loop-i.invariant.0), omega (arith, c.if-to-i.false))
 
 pub returns-then-bit-zeros-lt64-clause-result_value : goal.returns-then-bit-zeros-lt64-clause-result_value
 returns-then-bit-zeros-lt64-clause-result_value c = λ _. flag_at _ _ _ (c.zeros_from-zeros.ensures.result_value c.if-bit-zeros-lt64.true) c.if-bit-zeros-lt64.true
@@ -25,17 +13,5 @@ returns-then-bit-zeros-lt64-clause-result_value c = λ _. flag_at _ _ _ (c.zeros
 pub returns-then-bit-zeros-lt64-clause-by_index : goal.returns-then-bit-zeros-lt64-clause-by_index
 returns-then-bit-zeros-lt64-clause-by_index c = none-until _ _ _ c.zeros_from-zeros.ensures.by_index c.zeros_from-zeros.ensures.result_bound _ c.loop-i.invariant.2
 
-pub loop-i-smaller : goal.loop-i-smaller
-loop-i-smaller c = omega (arith, c.zeros_from-zeros.ensures.result_bound, c.if-bit-zeros-lt64.false, c.if-to-i.false)
-
 pub loop-i-preserved : goal.loop-i-preserved
 loop-i-preserved c = (omega (arith, c.loop-i.invariant.0), omega (arith, c.if-to-i.false), none-until _ _ _ c.zeros_from-zeros.ensures.by_index c.zeros_from-zeros.ensures.result_bound _ c.loop-i.invariant.2)
-
-pub returns-clause-lower_bound : goal.returns-clause-lower_bound
-returns-clause-lower_bound c = (c.loop-i.invariant.0, c.loop-i.invariant.1)
-
-pub returns-clause-result_value : goal.returns-clause-result_value
-returns-clause-result_value c = λ h. absurd (omega (arith, h, c.loop-i-test.false))
-
-pub returns-clause-by_index : goal.returns-clause-by_index
-returns-clause-by_index c = c.loop-i.invariant.2

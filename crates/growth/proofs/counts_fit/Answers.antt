@@ -1,13 +1,15 @@
 -- By the limits, one after the other.
 -- Assumes nothing.
-use Rattle.growth.proofs.ExpandLoops.{fits-room, fits-clauses, fits-variables}
+use Rattle.std.proofs.Common.{arith}
+use Rattle.std.proofs.lemmas.Bool.Decides.{nat_tests}
+use Rattle.growth.specs.Expanding.{counts_fit}
 use Rattle.growth.proofs.counts_fit.Goals as goal
+use Rattle.growth.proofs.counts_fit.Goals.{then-d-lt-VARIABLES, else-d-lt-VARIABLES}
 
 pub returns-then-d-le-CLAUSES : goal.returns-then-d-le-CLAUSES
-returns-then-d-le-CLAUSES c = fits-room _ c.if-d-lt-VARIABLES.true c.if-d-le-CLAUSES.true
+unfolding counts_fit
+returns-then-d-le-CLAUSES c = elim c.if-d-lt-VARIABLES.branch [ then-d-lt-VARIABLES w ↦ grind (arith, nat_tests) | else-d-lt-VARIABLES w ↦ grind (arith, nat_tests) ]
 
 pub returns-else-d-le-CLAUSES : goal.returns-else-d-le-CLAUSES
-returns-else-d-le-CLAUSES c = fits-clauses _ c.if-d-lt-VARIABLES.true c.if-d-le-CLAUSES.false
-
-pub returns-else-d-lt-VARIABLES : goal.returns-else-d-lt-VARIABLES
-returns-else-d-lt-VARIABLES c = fits-variables _ c.if-d-lt-VARIABLES.false
+unfolding counts_fit
+returns-else-d-le-CLAUSES c = elim c.if-d-lt-VARIABLES.branch [ then-d-lt-VARIABLES w ↦ grind (arith, nat_tests) | else-d-lt-VARIABLES w ↦ grind (arith, nat_tests) ]

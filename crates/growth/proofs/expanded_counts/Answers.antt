@@ -14,9 +14,6 @@ use Rattle.growth.proofs.expanded_counts.Goals as goal
 pub slice_bounds-count_existentials-end : goal.slice_bounds-count_existentials-end
 slice_bounds-count_existentials-end c = let b = bounds c.requires.held in sym (length-take-le _ _ (omega arith))
 
-pub count_existentials-k-requires : goal.count_existentials-k-requires
-count_existentials-k-requires c = take-few c.args.c.variables 1023 c.args.t.now (bounds c.requires.held).variables
-
 pub overflow_add-result : goal.overflow_add-result
 overflow_add-result c =
     let v = (bounds c.requires.held).variables in

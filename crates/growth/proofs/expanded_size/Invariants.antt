@@ -1,6 +1,6 @@
 -- The loop's invariant: the clauses that are left make the whole.
 -- Assumes nothing.
-use Prim.Native.Nat.{◌≤◌, ◌-◌, ◌*◌}
+use Prim.Native.Nat.{◌≤◌, ◌*◌}
 use mathlib.Core.Path.{◌≡◌}
 use mathlib.Core.Bool.{true}
 use Rattle.meaning.specs.Formula.{Formula}
@@ -11,10 +11,6 @@ use Rattle.growth.proofs.ExpandLoops.{Summing}
 use Rattle.growth.proofs.expanded_size.Given as goal
 
 abbrev pub invariant-loop-i : goal.invariant-loop-i
-invariant-loop-i l = (l.i ≤ l.c.clauses)
-    × (l.clauses ≤ 2 * l.i)
+invariant-loop-i l = (l.clauses ≤ 2 * l.i)
     × (l.literals ≤ 16382 * l.i)
     × ((φ : Formula) → Holds φ l.t l.c → well_formed φ ≡ true → l.ranks ≡ ranks_of φ.prefix → Summing φ.prefix l.n l.a φ.clauses l.i l.clauses l.literals)
-
-abbrev pub decreases-loop-i : goal.decreases-loop-i
-decreases-loop-i l = l.c.clauses - l.i

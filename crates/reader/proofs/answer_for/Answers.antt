@@ -1,37 +1,40 @@
--- By the tests.
+-- By the number.
 -- Assumes nothing.
-use Rattle.meaning.proofs.Basics.{eqb-eq, eqb-ne}
+use native.Mathlib.Omega.{arith}
+use Rattle.meaning.proofs.Basics.{eqb-ne}
 use Rattle.reader.specs.Reading.{answer_for}
 use Rattle.reader.proofs.answer_for.Goals as goal
 
-pub returns-then-k-eq1 : goal.returns-then-k-eq1
+pub returns-in-1 : goal.returns-in-1
 unfolding answer_for
-returns-then-k-eq1 c = rw (eqb-eq c.if-k-eq1.true)
+returns-in-1 c = rw c.in-1.is
 
-pub returns-then-k-eq3 : goal.returns-then-k-eq3
+pub returns-in-3 : goal.returns-in-3
 unfolding answer_for
-returns-then-k-eq3 c = rw (eqb-ne _ _ c.if-k-eq1.false, eqb-eq c.if-k-eq3.true)
+returns-in-3 c = rw c.in-3.is
 
-pub returns-then-k-eq4 : goal.returns-then-k-eq4
+pub returns-in-4 : goal.returns-in-4
 unfolding answer_for
-returns-then-k-eq4 c = rw (eqb-ne _ _ c.if-k-eq1.false, eqb-ne _ _ c.if-k-eq3.false, eqb-eq c.if-k-eq4.true)
+returns-in-4 c = rw c.in-4.is
 
-pub returns-then-k-eq5 : goal.returns-then-k-eq5
+pub returns-in-5 : goal.returns-in-5
 unfolding answer_for
-returns-then-k-eq5 c = rw (eqb-ne _ _ c.if-k-eq1.false, eqb-ne _ _ c.if-k-eq3.false, eqb-ne _ _ c.if-k-eq4.false, eqb-eq c.if-k-eq5.true)
+returns-in-5 c = rw c.in-5.is
 
-pub returns-then-k-eq6 : goal.returns-then-k-eq6
+pub returns-in-6 : goal.returns-in-6
 unfolding answer_for
-returns-then-k-eq6 c = rw (eqb-ne _ _ c.if-k-eq1.false, eqb-ne _ _ c.if-k-eq3.false, eqb-ne _ _ c.if-k-eq4.false, eqb-ne _ _ c.if-k-eq5.false, eqb-eq c.if-k-eq6.true)
+returns-in-6 c = rw c.in-6.is
 
-pub returns-then-k-eq7 : goal.returns-then-k-eq7
+pub returns-in-7 : goal.returns-in-7
 unfolding answer_for
-returns-then-k-eq7 c = rw (eqb-ne _ _ c.if-k-eq1.false, eqb-ne _ _ c.if-k-eq3.false, eqb-ne _ _ c.if-k-eq4.false, eqb-ne _ _ c.if-k-eq5.false, eqb-ne _ _ c.if-k-eq6.false, eqb-eq c.if-k-eq7.true)
+returns-in-7 c = rw c.in-7.is
 
-pub returns-then-k-eq8 : goal.returns-then-k-eq8
+pub returns-in-8 : goal.returns-in-8
 unfolding answer_for
-returns-then-k-eq8 c = rw (eqb-ne _ _ c.if-k-eq1.false, eqb-ne _ _ c.if-k-eq3.false, eqb-ne _ _ c.if-k-eq4.false, eqb-ne _ _ c.if-k-eq5.false, eqb-ne _ _ c.if-k-eq6.false, eqb-ne _ _ c.if-k-eq7.false, eqb-eq c.if-k-eq8.true)
+returns-in-8 c = rw c.in-8.is
 
-pub returns : goal.returns
+pub returns-in_default : goal.returns-in_default
 unfolding answer_for
-returns c = rw (eqb-ne _ _ c.if-k-eq1.false, eqb-ne _ _ c.if-k-eq3.false, eqb-ne _ _ c.if-k-eq4.false, eqb-ne _ _ c.if-k-eq5.false, eqb-ne _ _ c.if-k-eq6.false, eqb-ne _ _ c.if-k-eq7.false, eqb-ne _ _ c.if-k-eq8.false)
+returns-in_default c =
+    let k = c.args.k in
+    rw (eqb-ne k 1 (omega arith), eqb-ne k 3 (omega arith), eqb-ne k 4 (omega arith), eqb-ne k 5 (omega arith), eqb-ne k 6 (omega arith), eqb-ne k 7 (omega arith), eqb-ne k 8 (omega arith))

@@ -6,22 +6,22 @@ use Rattle.meaning.proofs.Folds.{fold-turn, fold_end}
 use Rattle.stamps.specs.Stamp.{hash_on, hash_of}
 use Rattle.stamps.proofs.hash_of.Goals as goal
 
-pub loop-i-init : goal.loop-i-init
+pub loop-literal-init : goal.loop-literal-init
 unfolding hash_of
-loop-i-init c = (omega arith, omega arith, refl)
+loop-literal-init c = (omega arith, omega arith, refl)
 
 pub overflow_cast-h : goal.overflow_cast-h
-overflow_cast-h c = omega (arith, c.type_inv.clause c.loop-i.i)
+overflow_cast-h c = omega (arith, c.type_inv.clause c.loop-literal.literal-index)
 
 pub overflow_add-h : goal.overflow_add-h
-overflow_add-h c = omega (arith, c.type_inv.clause c.loop-i.i)
+overflow_add-h c = omega (arith, c.type_inv.clause c.loop-literal.literal-index)
 
 pub overflow_mul-h : goal.overflow_mul-h
-overflow_mul-h c = omega (arith, c.type_inv.clause c.loop-i.i)
+overflow_mul-h c = omega (arith, c.type_inv.clause c.loop-literal.literal-index)
 
-pub loop-i-preserved : goal.loop-i-preserved
+pub loop-literal-preserved : goal.loop-literal-preserved
 unfolding hash_on
-loop-i-preserved c = (omega arith, omega arith, fold-turn hash_on 0 _ c.loop-i.i c.loop-i.h c.loop-i.invariant.2 c.loop-i-test.true)
+loop-literal-preserved c = (omega arith, omega arith, fold-turn hash_on 0 _ c.loop-literal.literal-index c.loop-literal.h c.loop-literal.invariant.2 c.loop-literal-test.true)
 
 pub returns : goal.returns
-returns c = fold_end hash_on 0 _ c.loop-i.i c.loop-i.h c.loop-i.invariant.2 (omega arith)
+returns c = fold_end hash_on 0 _ c.loop-literal.literal-index c.loop-literal.h c.loop-literal.invariant.2 (omega arith)

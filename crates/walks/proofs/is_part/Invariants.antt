@@ -1,6 +1,6 @@
 -- The loop's invariant: what is left of both clauses decides.
 -- Assumes nothing.
-use Prim.Native.Nat.{◌≤◌, ◌+◌, ◌-◌}
+use Prim.Native.Nat.{◌≤◌}
 use mathlib.Core.Path.{◌≡◌}
 use mathlib.Core.Bool.{true}
 use lib.ListN.{length}
@@ -9,8 +9,5 @@ use Rattle.meaning.specs.WellFormed.{ascends}
 use Rattle.walks.proofs.WalkLaws.{Ahead}
 use Rattle.walks.proofs.is_part.Given as goal
 
-abbrev pub invariant-loop-i : goal.invariant-loop-i
-invariant-loop-i l = (l.i ≤ length l.x) × (l.j ≤ length l.y) × (ascends l.x ≡ true → ascends l.y ≡ true → Ahead part_of l.x l.y l.i l.j)
-
-abbrev pub decreases-loop-i : goal.decreases-loop-i
-decreases-loop-i l = (length l.x - l.i) + (length l.y - l.j)
+abbrev pub invariant-loop-k : goal.invariant-loop-k
+invariant-loop-k l = (l.i ≤ length l.x) × (ascends l.x ≡ true → ascends l.y ≡ true → Ahead part_of l.x l.y l.i l.k-index)

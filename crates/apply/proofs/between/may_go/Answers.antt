@@ -4,7 +4,7 @@ use mathlib.Core.Path.{sym}
 use Rattle.apply.proofs.between.may_go.Goals as goal
 
 pub returns-then-known : goal.returns-then-known
-returns-then-known c = λ φ g. sym (c.requires.2 φ g c.if-known.true)
+returns-then-known c = λ φ g. sym (c.requires.1 φ g c.if-known.true)
 
 pub returns : goal.returns
 returns c = c.is_permitted.ensures

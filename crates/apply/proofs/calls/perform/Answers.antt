@@ -1,15 +1,9 @@
 -- By the call.
 -- Assumes nothing.
-use mathlib.Core.Path.{refl}
-use Rattle.meaning.proofs.Basics.{clash}
 use Rattle.permits.specs.Calls.{called}
 use Rattle.steps.specs.Decide.{call_permitted}
 use Rattle.apply.specs.Applied.{call_result}
 use Rattle.apply.proofs.calls.perform.Goals as goal
-
-pub returns-in-Bad : goal.returns-in-Bad
-unfolding called call_permitted
-returns-in-Bad c = λ φ g p. clash (rw c.in-Bad.is at p) refl
 
 pub returns-in-Unit : goal.returns-in-Unit
 unfolding called call_permitted call_result

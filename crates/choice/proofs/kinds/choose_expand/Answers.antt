@@ -9,11 +9,11 @@ use Rattle.choice.proofs.KindLaws.{best-small, best-next, best_none, best-later,
 use Rattle.choice.proofs.kinds.choose_expand.Goals as goal
 
 pub entry_of-requires : goal.entry_of-requires
-entry_of-requires c = (omega arith, best-small _ c.requires.0.formula expand _ (c.best_expand.ensures c.requires.0.formula c.requires.0.ranks-of) c.requires.0.ranks-of.holds.fitting _ c.in-Lightest.is, omega arith)
+entry_of-requires c = (omega arith, best-small _ c.requires.0.formula expand _ (c.best_expand.ensures c.requires.0.formula c.requires.0.ranks-of) c.requires.0.ranks-of.holds.fitting _ c.in-Ok.is, omega arith)
 
-pub returns-in-Lightest : goal.returns-in-Lightest
+pub returns-in-Ok : goal.returns-in-Ok
 unfolding costly code
-returns-in-Lightest c = λ φ r h. best-next _ φ expand _ (c.best_expand.ensures φ r) refl _ c.in-Lightest.is _ (c.entry_of.ensures expand refl) _ (searched-none _)
+returns-in-Ok c = λ φ r h. best-next _ φ expand _ (c.best_expand.ensures φ r) refl _ c.in-Ok.is _ (c.entry_of.ensures expand refl) _ (searched-none _)
 
-pub returns-in-Nothing : goal.returns-in-Nothing
-returns-in-Nothing c = λ φ r h. let i = c.best_expand.ensures φ r in best-later _ φ expand _ i _ c.in-Nothing.is _ (stuck-next _ φ _ _ h (best_none _ φ expand _ i _ c.in-Nothing.is).1 _ c.stuck.ensures)
+pub returns-in-Err : goal.returns-in-Err
+returns-in-Err c = λ φ r h. let i = c.best_expand.ensures φ r in best-later _ φ expand _ i _ c.in-Err.is _ (stuck-next _ φ _ (c.stuck.ensures _ _ h (best_none _ φ expand _ i _ c.in-Err.is).1))

@@ -1,6 +1,5 @@
 -- The loop's invariant: the variables that are left go on from the standing.
 -- Assumes nothing.
-use Prim.Native.Nat.{◌≤◌, ◌-◌}
 use mathlib.Core.Path.{◌≡◌}
 use Rattle.meaning.specs.Formula.{Formula}
 use Rattle.rules.specs.Entry.{expand}
@@ -9,7 +8,4 @@ use Rattle.choice.proofs.TurnLaws.{variables_from}
 use Rattle.choice.proofs.lightest.best_expand.Given as goal
 
 abbrev pub invariant-loop-i : goal.invariant-loop-i
-invariant-loop-i l = (l.i ≤ l.c.variables) × ((φ : Formula) → Ranks φ l.t l.c l.ranks → consider_all φ expand l.initial.s (variables_from φ 0) ≡ consider_all φ expand l.s (variables_from φ l.i))
-
-abbrev pub decreases-loop-i : goal.decreases-loop-i
-decreases-loop-i l = l.c.variables - l.i
+invariant-loop-i l = ((φ : Formula) → Ranks φ l.t l.fn.c l.ranks → consider_all φ expand l.initial.s (variables_from φ 0) ≡ consider_all φ expand l.s (variables_from φ l.i))

@@ -15,4 +15,4 @@ pub returns-then-contains : goal.returns-then-contains
 returns-then-contains c = λ φ h k p q. searched-none _
 
 pub returns : goal.returns
-returns c = λ φ h k p q. searched-pure φ k.well _ _ q p _ _ (c.times_in.ensures φ k) (c.times_in-2.ensures φ k) (not-universal h _ _ c.contains.ensures c.if-contains.false) _ c.less.ensures
+returns c = λ φ h k p q. searched-pure φ k.well _ _ q p _ _ (c.times_in.ensures φ k) (c.times_in-2.ensures φ k) (not-universal h _ _ c.contains.ensures c.if-contains.false) _ c.saturating_sub.ensures

@@ -22,7 +22,7 @@ returns-in-Over c =
     λ φ h.
     let t = c.loop-end.invariant.4 φ (lends-here h (c.clear_spare.ensures φ h)) in
     let q = c.choose_between-chosen.ensures t.formula (here-lends t.here) in
-    rw (sym c.smaller-room.ensures) (turns-over φ _ _ _ _ t _ (sym c.in-Over.is ∙ q.0) _ c.outcome_of.ensures (turns-chosen φ _ _ _ _ t q.2).stands)
+    rw (sym c.min-room.ensures) (turns-over φ _ _ _ _ t _ (sym c.in-Over.is ∙ q.0) (turns-chosen φ _ _ _ _ t q.2).stands)
 
 pub returns-then-n-room : goal.returns-then-n-room
 unfolding run
@@ -30,16 +30,16 @@ returns-then-n-room c =
     λ φ h.
     let t = c.loop-end.invariant.4 φ (lends-here h (c.clear_spare.ensures φ h)) in
     let q = c.choose_between-chosen.ensures t.formula (here-lends t.here) in
-    rw (sym c.smaller-room.ensures) (turns_stopped φ _ _ _ _ t _ (sym c.in-Step.is ∙ q.0) c.if-n-room.true (turns-chosen φ _ _ _ _ t q.2).stands)
+    rw (sym c.min-room.ensures) (turns_stopped φ _ _ _ _ t _ (sym c.in-Step.is ∙ q.0) c.if-n-room.true (turns-chosen φ _ _ _ _ t q.2).stands)
 
 pub slice_bounds-put_entry-count : goal.slice_bounds-put_entry-count
-slice_bounds-put_entry-count c = omega (arith, c.loop-end.invariant.0, c.loop-end.invariant.3, c.smaller-room.ensures, c.if-n-room.false)
+slice_bounds-put_entry-count c = omega (arith, c.loop-end.invariant.0, c.loop-end.invariant.3, c.min-room.ensures, c.if-n-room.false)
 
 pub slice_bounds-put_entry-start : goal.slice_bounds-put_entry-start
-slice_bounds-put_entry-start c = omega (arith, c.loop-end.invariant.0, c.loop-end.invariant.3, c.smaller-room.ensures, c.if-n-room.false)
+slice_bounds-put_entry-start c = omega (arith, c.loop-end.invariant.0, c.loop-end.invariant.3, c.min-room.ensures, c.if-n-room.false)
 
 pub put_entry-requires : goal.put_entry-requires
-put_entry-requires c = simp (length-take, length-drop) (omega (arith, c.loop-end.invariant.0, c.loop-end.invariant.3, c.smaller-room.ensures, c.if-n-room.false))
+put_entry-requires c = simp (length-take, length-drop) (omega (arith, c.loop-end.invariant.0, c.loop-end.invariant.3, c.min-room.ensures, c.if-n-room.false))
 
 pub advance-d-requires : goal.advance-d-requires
 advance-d-requires c =

@@ -5,14 +5,14 @@ use native.Mathlib.Omega.{arith}
 use Rattle.earlier.proofs.EarlierLaws.{lack-turn, lack-found, lack-end}
 use Rattle.earlier.proofs.earlier.lacking.Goals as goal
 
-pub loop-i-init : goal.loop-i-init
-loop-i-init c = (omega arith, refl)
+pub loop-literal-init : goal.loop-literal-init
+loop-literal-init c = refl
 
-pub loop-i-preserved : goal.loop-i-preserved
-loop-i-preserved c = (omega arith, c.loop-i.invariant.1 ∙ lack-turn _ _ _ c.loop-i.i (omega arith) (sym c.contains.ensures ∙ c.if-contains.true))
+pub loop-literal-preserved : goal.loop-literal-preserved
+loop-literal-preserved c = c.loop-literal.invariant ∙ lack-turn _ _ _ c.loop-literal.literal-index (omega arith) (sym c.contains.ensures ∙ c.if-not-contains.false)
 
-pub returns-else-contains : goal.returns-else-contains
-returns-else-contains c = sym (c.loop-i.invariant.1 ∙ lack-found _ _ _ c.loop-i.i (omega arith) (sym c.contains.ensures ∙ c.if-contains.false))
+pub returns-then-not-contains : goal.returns-then-not-contains
+returns-then-not-contains c = sym (c.loop-literal.invariant ∙ lack-found _ _ _ c.loop-literal.literal-index (omega arith) (sym c.contains.ensures ∙ c.if-not-contains.true))
 
 pub returns : goal.returns
-returns c = sym (c.loop-i.invariant.1 ∙ lack-end _ _ _ c.loop-i.i (omega arith))
+returns c = sym (c.loop-literal.invariant ∙ lack-end _ _ _ c.loop-literal.literal-index (omega arith))

@@ -13,6 +13,3 @@ use Rattle.expanding.proofs.copies.push_copies.Given as goal
 
 abbrev pub invariant-loop-v : goal.invariant-loop-v
 invariant-loop-v l = (l.v ≤ l.k + l.n + 1) × (l.k ≤ 1023) × (l.n ≤ 1023) × Readied l.ranks × (length l.target ≡ length l.initial.target) × Held l.target l.e × ((p : List ℕ) (ψ : Formula) → Ready p l.ranks → length p ≡ l.k → Holds ψ l.initial.target l.initial.e → Copying p ψ l.enough l.v (l.k + l.n + 1 - l.v) (map plain (fresh p l.n)) l.initial.e.second l.target l.e)
-
-abbrev pub decreases-loop-v : goal.decreases-loop-v
-decreases-loop-v l = l.k + l.n + 1 - l.v

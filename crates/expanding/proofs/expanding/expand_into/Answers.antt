@@ -12,8 +12,7 @@ use Rattle.rules.specs.Eliminate.{fresh}
 use Rattle.table.specs.Table.{Holds, Held}
 use Rattle.table.specs.Answer.{Built}
 use Rattle.table.specs.declared.Counts.{Counts}
-use Rattle.table.specs.declared.Pushed.{Pushed}
-use Rattle.table.specs.declared.Pushed.TheVariants.{Done}
+use Rattle.std.specs.Prelude.{Option, Some}
 use Rattle.table.proofs.HoldLaws.{bounds, held, count-variables}
 use Rattle.table.specs.Ranks.{Ranked}
 use Rattle.permits.specs.Places.{place_of}
@@ -22,8 +21,9 @@ use Rattle.rebuilds.specs.Raws.{bare}
 use Rattle.recipes.specs.Recipe.{Ready}
 use Rattle.rebuilds.proofs.BuildLaws.{built-done}
 use Rattle.rebuilds.proofs.RawLaws.{ranked-ready}
-use Rattle.rebuilds.proofs.GivenLaws.{begun-held, begun-well, begun-ranks, given-ready}
-use Rattle.expanding.specs.Copies.{existentials, with_entries}
+use Rattle.rebuilds.proofs.GivenLaws.{begun-held, begun-well, given-ready}
+use Rattle.expanding.specs.Copies.{with_entries}
+use Rattle.permits.specs.Variables.{existentials}
 use Rattle.expanding.proofs.ExpandLaws.{front, expand-shrunk, expand-few, expand-good, expand-full, expand-done, expand-never}
 use Rattle.expanding.proofs.expanding.expand_into.Goals as goal
 
@@ -41,20 +41,20 @@ module _ {source ranks : List ℕ} {c : Counts} (a m n : ℕ) (t : List ℕ) (d 
     narrow at count = let k = bounds copied-held in omega (arith, few at count)
 
   -- once the copies are pushed
-  module _ (r : Pushed) (t' : List ℕ)
+  module _ (r : Option Counts) (t' : List ℕ)
       (pushed : (p : List ℕ) (ψ : Formula) → Ready p ranks → length p ≡ c.variables → Holds ψ t d → Built (with_entries ψ (map plain (fresh p n))) d.second r t') where
     made : {φ : Formula} (g : Given φ source c ranks) → Built (front g a n) d.second r t'
     made {φ} g = pushed φ.prefix (bare (drop_var a φ.prefix)) (given-ready g) (sym (count-variables g.holds)) (copies φ g.holds)
 
     -- where there is room for them
-    there : (e : Counts) → r ≡ Done e → {φ : Formula} (g : Given φ source c ranks) → Holds (front g a n) t' e
+    there : (e : Counts) → r ≡ Some e → {φ : Formula} (g : Given φ source c ranks) → Holds (front g a n) t' e
     there e is g = built-done _ _ _ _ (made g) e is
 
-    there-held : (e : Counts) → r ≡ Done e → {target scratch : List ℕ} → Begun source c target scratch ranks → Held t' e
+    there-held : (e : Counts) → r ≡ Some e → {target scratch : List ℕ} → Begun source c target scratch ranks → Held t' e
     there-held e is b = held (there e is b.given)
 
     -- once the new prefix is ranked
-    ready-again : (e : Counts) → r ≡ Done e → {target scratch : List ℕ} (b : Begun source c target scratch ranks)
+    ready-again : (e : Counts) → r ≡ Some e → {target scratch : List ℕ} (b : Begun source c target scratch ranks)
         → m ≡ place_of b.formula.prefix a → n ≡ existentials (drop m (take c.variables source))
         → (answer : Bool) (ranks' : List ℕ) → Ranked (take e.variables t') answer ranks' → Ready (take e.variables t') ranks'
     ready-again e is b at count answer ranks' k = ranked-ready (there e is b.given) (expand-good b.given a m n at count) answer ranks' k
@@ -62,68 +62,51 @@ module _ {source ranks : List ℕ} {c : Counts} (a m n : ℕ) (t : List ℕ) (d 
 pub returns-then-a-gt-VARIABLES : goal.returns-then-a-gt-VARIABLES
 returns-then-a-gt-VARIABLES c = λ φ g ok. expand-never g _ ok c.if-a-gt-VARIABLES.true
 
-pub slice_bounds-count_inner-end : goal.slice_bounds-count_inner-end
-slice_bounds-count_inner-end c =
+pub slice_bounds-count_existentials-end : goal.slice_bounds-count_existentials-end
+slice_bounds-count_existentials-end c =
     let b = bounds (begun-held c.requires) in
     sym (length-take-le _ _ (omega arith))
-
-pub place_of-requires : goal.place_of-requires
-place_of-requires c = begun-ranks c.requires
-
-pub count_inner-n-requires : goal.count_inner-n-requires
-count_inner-n-requires c =
-    let b = bounds (begun-held c.requires) in
-    omega (arith, length-take-le c.args.c.variables c.args.source.now (omega arith))
 
 pub overflow_cast-k : goal.overflow_cast-k
 overflow_cast-k c = let b = bounds (begun-held c.requires) in omega arith
 
 pub overflow_cast-n : goal.overflow_cast-n
-overflow_cast-n c = omega (arith, narrow c.args.a c.place_of.result c.count_inner-n.result c.copy_prefix-d.new.target c.copy_prefix-d.result c.copy_prefix-d.ensures.holds c.requires (c.place_of.ensures c.requires.formula.prefix (given-ready c.requires.given).ranked (given-ready c.requires.given).good) c.count_inner-n.ensures)
-
-pub push_copies-requires-clause-held : goal.push_copies-requires-clause-held
-push_copies-requires-clause-held c = copied-held c.args.a c.place_of.result c.count_inner-n.result c.copy_prefix-d.new.target c.copy_prefix-d.result c.copy_prefix-d.ensures.holds c.requires
+overflow_cast-n c = omega (arith, narrow c.args.a c.place_of.result c.count_existentials-n.result c.copy_prefix-d.new.target c.copy_prefix-d.result c.copy_prefix-d.ensures.holds c.requires (c.place_of.ensures c.requires.formula.prefix (given-ready c.requires.given).ranked (given-ready c.requires.given).good) c.count_existentials-n.ensures)
 
 pub push_copies-requires-clause-readied : goal.push_copies-requires-clause-readied
 push_copies-requires-clause-readied c =
     let b = bounds (begun-held c.requires) in
-    (record { prefix = c.requires.formula.prefix; ready = given-ready c.requires.given }, omega arith, narrow c.args.a c.place_of.result c.count_inner-n.result c.copy_prefix-d.new.target c.copy_prefix-d.result c.copy_prefix-d.ensures.holds c.requires (c.place_of.ensures c.requires.formula.prefix (given-ready c.requires.given).ranked (given-ready c.requires.given).good) c.count_inner-n.ensures)
+    (record { prefix = c.requires.formula.prefix; ready = given-ready c.requires.given }, omega arith, narrow c.args.a c.place_of.result c.count_existentials-n.result c.copy_prefix-d.new.target c.copy_prefix-d.result c.copy_prefix-d.ensures.holds c.requires (c.place_of.ensures c.requires.formula.prefix (given-ready c.requires.given).ranked (given-ready c.requires.given).good) c.count_existentials-n.ensures)
 
 pub slice_bounds-rank_prefix-end : goal.slice_bounds-rank_prefix-end
-slice_bounds-rank_prefix-end c = let b = bounds (there-held c.args.a c.place_of.result c.count_inner-n.result c.copy_prefix-d.new.target c.copy_prefix-d.result c.copy_prefix-d.ensures.holds c.push_copies.result c.push_copies.new.target c.push_copies.ensures c.in-Done.e c.in-Done.is c.requires) in omega arith
+slice_bounds-rank_prefix-end c = let b = bounds (there-held c.args.a c.place_of.result c.count_existentials-n.result c.copy_prefix-d.new.target c.copy_prefix-d.result c.copy_prefix-d.ensures.holds c.push_copies.result c.push_copies.new.target c.push_copies.ensures c.in_ok-e.e c.in_ok-e.was c.requires) in omega arith
 
-pub slice_bounds-rank_prefix-end-in-Done : goal.slice_bounds-rank_prefix-end-in-Done
-slice_bounds-rank_prefix-end-in-Done c = let b = bounds (there-held c.args.a c.place_of.result c.count_inner-n.result c.copy_prefix-d.new.target c.copy_prefix-d.result c.copy_prefix-d.ensures.holds c.push_copies.result c.push_copies.new.target c.push_copies.ensures c.in-Done.e c.in-Done.is c.requires) in sym (length-take-le _ _ (omega arith))
+pub slice_bounds-rank_prefix-end-2 : goal.slice_bounds-rank_prefix-end-2
+slice_bounds-rank_prefix-end-2 c = let b = bounds (there-held c.args.a c.place_of.result c.count_existentials-n.result c.copy_prefix-d.new.target c.copy_prefix-d.result c.copy_prefix-d.ensures.holds c.push_copies.result c.push_copies.new.target c.push_copies.ensures c.in_ok-e.e c.in_ok-e.was c.requires) in sym (length-take-le _ _ (omega arith))
 
 pub rank_prefix-requires : goal.rank_prefix-requires
 rank_prefix-requires c =
-    let b = bounds (there-held c.args.a c.place_of.result c.count_inner-n.result c.copy_prefix-d.new.target c.copy_prefix-d.result c.copy_prefix-d.ensures.holds c.push_copies.result c.push_copies.new.target c.push_copies.ensures c.in-Done.e c.in-Done.is c.requires) in
-    (begun-ranks c.requires, omega (arith, length-take-le c.in-Done.e.variables c.push_copies.new.target (omega arith)))
+    let b = bounds (there-held c.args.a c.place_of.result c.count_existentials-n.result c.copy_prefix-d.new.target c.copy_prefix-d.result c.copy_prefix-d.ensures.holds c.push_copies.result c.push_copies.new.target c.push_copies.ensures c.in_ok-e.e c.in_ok-e.was c.requires) in
+    omega (arith, length-take-le c.in_ok-e.e.variables c.push_copies.new.target (omega arith))
 
 pub overflow_sub-s : goal.overflow_sub-s
-overflow_sub-s c = few c.args.a c.place_of.result c.count_inner-n.result c.copy_prefix-d.new.target c.copy_prefix-d.result c.copy_prefix-d.ensures.holds c.requires (c.place_of.ensures c.requires.formula.prefix (given-ready c.requires.given).ranked (given-ready c.requires.given).good) c.count_inner-n.ensures
+overflow_sub-s c = few c.args.a c.place_of.result c.count_existentials-n.result c.copy_prefix-d.new.target c.copy_prefix-d.result c.copy_prefix-d.ensures.holds c.requires (c.place_of.ensures c.requires.formula.prefix (given-ready c.requires.given).ranked (given-ready c.requires.given).good) c.count_existentials-n.ensures
 
-pub overflow_cast-n-in-Done : goal.overflow_cast-n-in-Done
-overflow_cast-n-in-Done c = omega (arith, narrow c.args.a c.place_of.result c.count_inner-n.result c.copy_prefix-d.new.target c.copy_prefix-d.result c.copy_prefix-d.ensures.holds c.requires (c.place_of.ensures c.requires.formula.prefix (given-ready c.requires.given).ranked (given-ready c.requires.given).good) c.count_inner-n.ensures)
+pub overflow_cast-n-2 : goal.overflow_cast-n-2
+overflow_cast-n-2 c = omega (arith, narrow c.args.a c.place_of.result c.count_existentials-n.result c.copy_prefix-d.new.target c.copy_prefix-d.result c.copy_prefix-d.ensures.holds c.requires (c.place_of.ensures c.requires.formula.prefix (given-ready c.requires.given).ranked (given-ready c.requires.given).good) c.count_existentials-n.ensures)
 
-pub add_expanded-requires-clause-held : goal.add_expanded-requires-clause-held
-add_expanded-requires-clause-held c = begun-held c.requires
-
-pub add_expanded-requires-clause-held_2 : goal.add_expanded-requires-clause-held_2
-add_expanded-requires-clause-held_2 c = there-held c.args.a c.place_of.result c.count_inner-n.result c.copy_prefix-d.new.target c.copy_prefix-d.result c.copy_prefix-d.ensures.holds c.push_copies.result c.push_copies.new.target c.push_copies.ensures c.in-Done.e c.in-Done.is c.requires
+pub add_expanded-requires-clause-held_target : goal.add_expanded-requires-clause-held_target
+add_expanded-requires-clause-held_target c = there-held c.args.a c.place_of.result c.count_existentials-n.result c.copy_prefix-d.new.target c.copy_prefix-d.result c.copy_prefix-d.ensures.holds c.push_copies.result c.push_copies.new.target c.push_copies.ensures c.in_ok-e.e c.in_ok-e.was c.requires
 
 pub add_expanded-requires-clause-ready : goal.add_expanded-requires-clause-ready
-add_expanded-requires-clause-ready c = ready-again c.args.a c.place_of.result c.count_inner-n.result c.copy_prefix-d.new.target c.copy_prefix-d.result c.copy_prefix-d.ensures.holds c.push_copies.result c.push_copies.new.target c.push_copies.ensures c.in-Done.e c.in-Done.is c.requires (c.place_of.ensures c.requires.formula.prefix (given-ready c.requires.given).ranked (given-ready c.requires.given).good) c.count_inner-n.ensures _ _ c.rank_prefix.ensures
-
-pub add_expanded-requires-clause-scratch_len : goal.add_expanded-requires-clause-scratch_len
-add_expanded-requires-clause-scratch_len c = (c.requires.room, omega (arith, c.if-a-gt-VARIABLES.false))
+add_expanded-requires-clause-ready c = ready-again c.args.a c.place_of.result c.count_existentials-n.result c.copy_prefix-d.new.target c.copy_prefix-d.result c.copy_prefix-d.ensures.holds c.push_copies.result c.push_copies.new.target c.push_copies.ensures c.in_ok-e.e c.in_ok-e.was c.requires (c.place_of.ensures c.requires.formula.prefix (given-ready c.requires.given).ranked (given-ready c.requires.given).good) c.count_existentials-n.ensures _ _ c.rank_prefix.ensures
 
 pub add_expanded-requires-clause-shrunk : goal.add_expanded-requires-clause-shrunk
-add_expanded-requires-clause-shrunk c = expand-shrunk c.requires.given _ (begun-well c.requires) _ (there c.args.a c.place_of.result c.count_inner-n.result c.copy_prefix-d.new.target c.copy_prefix-d.result c.copy_prefix-d.ensures.holds c.push_copies.result c.push_copies.new.target c.push_copies.ensures c.in-Done.e c.in-Done.is c.requires.given)
+add_expanded-requires-clause-shrunk c = expand-shrunk c.requires.given _ (begun-well c.requires) _ (there c.args.a c.place_of.result c.count_existentials-n.result c.copy_prefix-d.new.target c.copy_prefix-d.result c.copy_prefix-d.ensures.holds c.push_copies.result c.push_copies.new.target c.push_copies.ensures c.in_ok-e.e c.in_ok-e.was c.requires.given)
 
-pub returns-in-Done : goal.returns-in-Done
-returns-in-Done c = λ φ g ok. expand-done g _ _ _ (c.place_of.ensures φ.prefix (given-ready g).ranked (given-ready g).good) c.count_inner-n.ensures ok (c.copy_prefix-d.ensures.holds φ g.holds) _ c.copy_prefix-d.ensures.second_value _ _
-    (made c.args.a c.place_of.result c.count_inner-n.result c.copy_prefix-d.new.target c.copy_prefix-d.result c.copy_prefix-d.ensures.holds c.push_copies.result c.push_copies.new.target c.push_copies.ensures g) _ c.in-Done.is _ _ (c.add_expanded.ensures φ _ g.holds (there c.args.a c.place_of.result c.count_inner-n.result c.copy_prefix-d.new.target c.copy_prefix-d.result c.copy_prefix-d.ensures.holds c.push_copies.result c.push_copies.new.target c.push_copies.ensures c.in-Done.e c.in-Done.is g))
+pub returns : goal.returns
+returns c = λ φ g ok. expand-done g _ _ _ (c.place_of.ensures φ.prefix (given-ready g).ranked (given-ready g).good) c.count_existentials-n.ensures ok (c.copy_prefix-d.ensures.holds φ g.holds) _ c.copy_prefix-d.ensures.second_value _ _
+    (made c.args.a c.place_of.result c.count_existentials-n.result c.copy_prefix-d.new.target c.copy_prefix-d.result c.copy_prefix-d.ensures.holds c.push_copies.result c.push_copies.new.target c.push_copies.ensures g) _ c.in_ok-e.was _ _ (c.add_expanded.ensures φ _ g.holds (there c.args.a c.place_of.result c.count_existentials-n.result c.copy_prefix-d.new.target c.copy_prefix-d.result c.copy_prefix-d.ensures.holds c.push_copies.result c.push_copies.new.target c.push_copies.ensures c.in_ok-e.e c.in_ok-e.was g))
 
-pub returns-in-Full : goal.returns-in-Full
-returns-in-Full c = λ φ g ok. expand-full g _ _ _ (c.place_of.ensures φ.prefix (given-ready g).ranked (given-ready g).good) c.count_inner-n.ensures ok _ _ _ (made c.args.a c.place_of.result c.count_inner-n.result c.copy_prefix-d.new.target c.copy_prefix-d.result c.copy_prefix-d.ensures.holds c.push_copies.result c.push_copies.new.target c.push_copies.ensures g) c.in-Full.is _ _
+pub returns-in_err-e : goal.returns-in_err-e
+returns-in_err-e c = rw c.from_residual.ensures (λ φ g ok. expand-full g _ _ _ (c.place_of.ensures φ.prefix (given-ready g).ranked (given-ready g).good) c.count_existentials-n.ensures ok _ _ _ (made c.args.a c.place_of.result c.count_existentials-n.result c.copy_prefix-d.new.target c.copy_prefix-d.result c.copy_prefix-d.ensures.holds c.push_copies.result c.push_copies.new.target c.push_copies.ensures g) c.in_err-e.was _ _)

@@ -6,4 +6,4 @@ use Rattle.exports.proofs.records.counts_in.Goals as goal
 
 pub returns : goal.returns
 unfolding counts_in
-returns c = refl
+returns c = (c.if-counts-gt1.false, refl)

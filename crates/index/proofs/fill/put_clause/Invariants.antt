@@ -1,6 +1,6 @@
 -- The loop's invariant: the literals so far have the clause in their lists.
 -- Assumes nothing.
-use Prim.Native.Nat.{ℕ, ◌≤◌, ◌-◌}
+use Prim.Native.Nat.{ℕ}
 use mathlib.Core.Path.{◌≡◌}
 use mathlib.Core.List.{List}
 use lib.ListN.{length}
@@ -8,10 +8,6 @@ use Rattle.index.specs.Build.{Filled, Turn}
 use Rattle.index.proofs.PartlyLaws.{partly}
 use Rattle.index.proofs.fill.put_clause.Given as goal
 
-abbrev pub invariant-loop-j : goal.invariant-loop-j
-invariant-loop-j l = (l.j ≤ length l.clause)
-    × (length l.index ≡ length l.initial.index)
-    × ((cs : List (List ℕ)) → Turn cs l.initial.index l.clause l.number → Filled cs (partly cs l.number l.j) l.index)
-
-abbrev pub decreases-loop-j : goal.decreases-loop-j
-decreases-loop-j l = length l.clause - l.j
+abbrev pub invariant-loop-literal : goal.invariant-loop-literal
+invariant-loop-literal l = (length l.index ≡ length l.initial.index)
+    × ((cs : List (List ℕ)) → Turn cs l.initial.index l.clause l.number → Filled cs (partly cs l.number l.literal-index) l.index)

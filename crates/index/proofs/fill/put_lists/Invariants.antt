@@ -1,6 +1,5 @@
 -- The loop's invariant: the clauses so far are in the lists of their literals.
 -- Assumes nothing.
-use Prim.Native.Nat.{◌≤◌, ◌-◌}
 use mathlib.Core.Path.{◌≡◌}
 use mathlib.Core.Bool.{true}
 use lib.ListN.{length, take}
@@ -12,10 +11,6 @@ use Rattle.index.specs.Build.{Filled, HeldWell}
 use Rattle.index.proofs.fill.put_lists.Given as goal
 
 abbrev pub invariant-loop-i : goal.invariant-loop-i
-invariant-loop-i l = (l.i ≤ l.c.clauses)
-    × (length l.index ≡ 11261)
+invariant-loop-i l = (length l.index ≡ 11261)
     × HeldWell l.t l.c
     × ((φ : Formula) → Holds φ l.t l.c → well_formed φ ≡ true → Filled φ.clauses (clauses_with (take l.i φ.clauses)) l.index)
-
-abbrev pub decreases-loop-i : goal.decreases-loop-i
-decreases-loop-i l = l.c.clauses - l.i

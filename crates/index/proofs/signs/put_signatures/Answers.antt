@@ -17,30 +17,26 @@ pub overflow_add-start : goal.overflow_add-start
 overflow_add-start c = omega (arith, c.type_inv.index 2047)
 
 pub loop-i-init : goal.loop-i-init
-loop-i-init c = (omega arith, c.requires.index_len, omega (arith, c.type_inv.index 2047), c.requires.held, λ φ h e. signs-start φ.clauses _ e)
+loop-i-init c = (c.requires.index_len, omega (arith, c.type_inv.index 2047), c.requires.held, λ φ h e. signs-start φ.clauses _ e)
 
 pub overflow_add-start-in-loop-i : goal.overflow_add-start-in-loop-i
-overflow_add-start-in-loop-i c = let b = bounds c.loop-i.invariant.3 in omega arith
+overflow_add-start-in-loop-i c = let b = bounds c.loop-i.invariant.2 in omega arith
 
 pub clause_at-requires-clause-held : goal.clause_at-requires-clause-held
-clause_at-requires-clause-held c = c.loop-i.invariant.3
+clause_at-requires-clause-held c = c.loop-i.invariant.2
 
 pub clause_at-requires-clause-i_lt_clauses : goal.clause_at-requires-clause-i_lt_clauses
-clause_at-requires-clause-i_lt_clauses c = c.loop-i-test.true
-
-pub overflow_add-i : goal.overflow_add-i
-overflow_add-i c = let b = bounds c.loop-i.invariant.3 in omega arith
+clause_at-requires-clause-i_lt_clauses c = omega arith
 
 pub loop-i-preserved : goal.loop-i-preserved
 loop-i-preserved c = (
-  omega arith,
-  c.put_signature.auto.index ∙ c.loop-i.invariant.1,
+  c.put_signature.auto.index ∙ c.loop-i.invariant.0,
+  c.loop-i.invariant.1,
   c.loop-i.invariant.2,
-  c.loop-i.invariant.3,
   λ φ h e. rw c.put_signature.ensures
-      (signed-turn φ.clauses _ c.loop-i.i _ (c.loop-i.invariant.4 φ h e) (omega (arith, count-clauses h, c.loop-i-test.true)) _
+      (signed-turn φ.clauses _ c.loop-i.i _ (c.loop-i.invariant.3 φ h e) (omega (arith, count-clauses h)) _
       (rw (← c.clause_at.ensures φ h) c.signature.ensures)),
 )
 
 pub returns : goal.returns
-returns c = λ φ h e. signed-end φ.clauses _ c.loop-i.i _ (c.loop-i.invariant.4 φ h e) (omega (arith, count-clauses h, c.loop-i-test.false))
+returns c = λ φ h e. signed-end φ.clauses _ c.loop-i.i _ (c.loop-i.invariant.3 φ h e) (omega (arith, count-clauses h))

@@ -1,6 +1,6 @@
 -- The loop's invariant: the clauses that are left have their signatures to come.
 -- Assumes nothing.
-use Prim.Native.Nat.{◌+◌, ◌≤◌, ◌-◌}
+use Prim.Native.Nat.{◌+◌, ◌≤◌}
 use mathlib.Core.Path.{◌≡◌}
 use lib.ListN.{length, drop}
 use Rattle.meaning.specs.Formula.{Formula}
@@ -10,11 +10,7 @@ use Rattle.index.specs.Signs.{signed}
 use Rattle.index.proofs.signs.put_signatures.Given as goal
 
 abbrev pub invariant-loop-i : goal.invariant-loop-i
-invariant-loop-i l = (l.i ≤ l.c.clauses)
-    × (length l.index ≡ 11261)
+invariant-loop-i l = (length l.index ≡ 11261)
     × (l.start ≤ 67583)
     × Held l.t l.c
     × ((φ : Formula) → Holds φ l.t l.c → l.initial.index ≡ lists_of φ.clauses → index_of φ.clauses ≡ signed (l.start + l.i) (drop l.i φ.clauses) l.index)
-
-abbrev pub decreases-loop-i : goal.decreases-loop-i
-decreases-loop-i l = l.c.clauses - l.i

@@ -6,35 +6,32 @@ use lib.ListN.{length-set}
 use Rattle.index.proofs.StartLaws.{count-start, count_fits, count_turn, count-end}
 use Rattle.index.proofs.starts.count_literals.Goals as goal
 
-pub loop-i-init : goal.loop-i-init
-loop-i-init c = (omega arith, c.requires.1, c.requires.2, c.zero.auto.t ∙ c.requires.0, count-start _ c.args.literals.now c.zero.ensures)
+pub loop-literal-init : goal.loop-literal-init
+loop-literal-init c = (c.requires.1, c.requires.2, c.zero.auto.t ∙ c.requires.0, count-start _ c.args.literals.now c.zero.ensures)
 
 pub overflow_cast-l : goal.overflow_cast-l
-overflow_cast-l c = omega (arith, c.type_inv.literals c.loop-i.i)
+overflow_cast-l c = omega (arith, c.type_inv.literals c.loop-literal.literal-index)
 
 pub offset_bounds-index-l : goal.offset_bounds-index-l
-offset_bounds-index-l c = omega (arith, c.type_inv.literals c.loop-i.i)
+offset_bounds-index-l c = omega (arith, c.type_inv.literals c.loop-literal.literal-index)
 
 pub bounds-index-l : goal.bounds-index-l
 bounds-index-l c =
-    let f = count_fits _ _ c.loop-i.i c.loop-i.invariant.4 c.loop-i.invariant.2 (omega arith) in
+    let f = count_fits _ _ c.loop-literal.literal-index c.loop-literal.invariant.3 c.loop-literal.invariant.1 (omega arith) in
     omega arith
 
 pub overflow_add-index : goal.overflow_add-index
 overflow_add-index c =
-    let f = count_fits _ _ c.loop-i.i c.loop-i.invariant.4 c.loop-i.invariant.2 (omega arith) in
+    let f = count_fits _ _ c.loop-literal.literal-index c.loop-literal.invariant.3 c.loop-literal.invariant.1 (omega arith) in
     omega arith
 
-pub offset_bounds-index-l-in-loop-i : goal.offset_bounds-index-l-in-loop-i
-offset_bounds-index-l-in-loop-i c = omega (arith, c.type_inv.literals c.loop-i.i)
-
-pub bounds-index-l-in-loop-i : goal.bounds-index-l-in-loop-i
-bounds-index-l-in-loop-i c =
-    let f = count_fits _ _ c.loop-i.i c.loop-i.invariant.4 c.loop-i.invariant.2 (omega arith) in
+pub bounds-index-l-in-loop-literal : goal.bounds-index-l-in-loop-literal
+bounds-index-l-in-loop-literal c =
+    let f = count_fits _ _ c.loop-literal.literal-index c.loop-literal.invariant.3 c.loop-literal.invariant.1 (omega arith) in
     omega arith
 
-pub loop-i-preserved : goal.loop-i-preserved
-loop-i-preserved c = (omega arith, c.loop-i.invariant.1, c.loop-i.invariant.2, simp length-set c.loop-i.invariant.3, count_turn _ _ c.loop-i.i c.loop-i.invariant.4 c.loop-i.invariant.2 (omega arith))
+pub loop-literal-preserved : goal.loop-literal-preserved
+loop-literal-preserved c = (c.loop-literal.invariant.0, c.loop-literal.invariant.1, simp length-set c.loop-literal.invariant.2, count_turn _ _ c.loop-literal.literal-index c.loop-literal.invariant.3 c.loop-literal.invariant.1 (omega arith))
 
 pub returns : goal.returns
-returns c = count-end _ _ c.loop-i.i c.loop-i.invariant.4 (omega arith)
+returns c = count-end _ _ c.loop-literal.literal-index c.loop-literal.invariant.3 (omega arith)

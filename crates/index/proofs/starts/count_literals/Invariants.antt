@@ -1,6 +1,6 @@
 -- The loop's invariant: the literals so far are counted.
 -- Assumes nothing.
-use Prim.Native.Nat.{◌≤◌, ◌-◌}
+use Prim.Native.Nat.{◌≤◌}
 use mathlib.Core.Path.{◌≡◌}
 use mathlib.Core.Bool.{true}
 use lib.ListN.{length, take}
@@ -9,11 +9,7 @@ use Rattle.table.specs.Ranks.{small}
 use Rattle.index.specs.Build.{counts_in}
 use Rattle.index.proofs.starts.count_literals.Given as goal
 
-abbrev pub invariant-loop-i : goal.invariant-loop-i
-invariant-loop-i l = (l.i ≤ length l.literals)
-    × (length l.literals ≤ 8191)
+abbrev pub invariant-loop-literal : goal.invariant-loop-literal
+invariant-loop-literal l = (length l.literals ≤ 8191)
     × (all_of small l.literals ≡ true)
-    × (length l.index ≡ 11261) × (l.index ≡ counts_in (take l.i l.literals))
-
-abbrev pub decreases-loop-i : goal.decreases-loop-i
-decreases-loop-i l = length l.literals - l.i
+    × (length l.index ≡ 11261) × (l.index ≡ counts_in (take l.literal-index l.literals))

@@ -1,6 +1,5 @@
 -- The loop's invariant: the places below l have their starts, the others their counts.
 -- Assumes nothing.
-use Prim.Native.Nat.{◌≤◌, ◌-◌}
 use mathlib.Core.Path.{◌≡◌}
 use lib.ListN.{length}
 use Rattle.meaning.specs.Formula.{Formula}
@@ -10,7 +9,4 @@ use Rattle.index.proofs.StartLaws.{Summed}
 use Rattle.index.proofs.starts.list_starts.Given as goal
 
 abbrev pub invariant-loop-l : goal.invariant-loop-l
-invariant-loop-l l = (l.l ≤ 2048) × (length l.index ≡ 11261) × Tallied l.initial.index × ((φ : Formula) → Tallies φ l.initial.index → Summed (all_literals φ.clauses) l.index l.l l.sum)
-
-abbrev pub decreases-loop-l : goal.decreases-loop-l
-decreases-loop-l l = 2048 - l.l
+invariant-loop-l l = (length l.index ≡ 11261) × Tallied l.initial.index × ((φ : Formula) → Tallies φ l.initial.index → Summed (all_literals φ.clauses) l.index l.l l.sum)

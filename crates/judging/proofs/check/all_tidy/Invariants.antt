@@ -1,6 +1,5 @@
 -- The loop's invariant: the clauses that are left decide.
 -- Assumes nothing.
-use Prim.Native.Nat.{◌≤◌, ◌-◌}
 use mathlib.Core.Path.{◌≡◌}
 use mathlib.Core.Bool.{true}
 use lib.ListN.{drop}
@@ -12,7 +11,4 @@ use Rattle.table.specs.Ranks.{ranks_of, good_entries}
 use Rattle.judging.proofs.check.all_tidy.Given as goal
 
 abbrev pub invariant-loop-i : goal.invariant-loop-i
-invariant-loop-i l = (l.i ≤ l.c.clauses) × ((φ : Formula) → Holds φ l.t l.c → good_entries φ.prefix ≡ true → l.ranks ≡ ranks_of φ.prefix → all_of (tidy_clause φ.prefix) φ.clauses ≡ all_of (tidy_clause φ.prefix) (drop l.i φ.clauses))
-
-abbrev pub decreases-loop-i : goal.decreases-loop-i
-decreases-loop-i l = l.c.clauses - l.i
+invariant-loop-i l = (φ : Formula) → Holds φ l.t l.c → good_entries φ.prefix ≡ true → l.ranks ≡ ranks_of φ.prefix → all_of (tidy_clause φ.prefix) φ.clauses ≡ all_of (tidy_clause φ.prefix) (drop l.i φ.clauses)

@@ -1,18 +1,13 @@
--- The loop's invariant: the numbers that are left decide.
+-- What `all` answers is the definition's.
 -- Assumes nothing.
-use mathlib.Core.Path.{refl}
-use native.Mathlib.Omega.{arith}
-use Rattle.judging.proofs.LayoutLaws.{zero_turn, zero-not, zero-end}
+use Rattle.std.proofs.Common.{◌∙◌, sym, rules, tests}
+use Rattle.std.proofs.lemmas.Iterator.{YieldsList-from_slice}
+use Rattle.std.proofs.lemmas.Iterator.Search.{all_from_yields_List}
+use lib.Dec.{eqb}
+use Rattle.meaning.proofs.StdLists.{all_of-std}
+use Rattle.judging.specs.Layout.{all_zero}
 use Rattle.judging.proofs.layout.all_zero.Goals as goal
 
-pub loop-i-init : goal.loop-i-init
-loop-i-init c = (omega arith, refl)
-
-pub returns-then-s-i-ne0 : goal.returns-then-s-i-ne0
-returns-then-s-i-ne0 c = zero-not _ c.loop-i.i c.loop-i.invariant.1 (omega arith) c.if-s-i-ne0.true
-
-pub loop-i-preserved : goal.loop-i-preserved
-loop-i-preserved c = (omega arith, zero_turn _ c.loop-i.i c.loop-i.invariant.1 (omega arith) c.if-s-i-ne0.false)
-
 pub returns : goal.returns
-returns c = zero-end _ c.loop-i.i c.loop-i.invariant.1 (omega arith)
+unfolding all_zero
+returns c = all_from_yields_List (λ x. eqb x 0) _ _ _ c.all.ensures.ran (YieldsList-from_slice c.args.s.now cc) (λ x b q k. search (rules, tests)) ∙ sym (all_of-std _ _)

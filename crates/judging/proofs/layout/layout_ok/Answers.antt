@@ -1,7 +1,11 @@
 -- Test by test.
 -- Assumes nothing.
-use mathlib.Core.Path.{sym, ◌∙◌}
-use Rattle.judging.proofs.LayoutLaws.{not-long, not-variables, not-clauses, not-literals, not-zero-1, not-zero-2, not-zero-3, ends-tell}
+use Prim.Native.Nat.{◌+◌}
+use mathlib.Core.Path.{◌≡◌, sym, ◌∙◌}
+use mathlib.Core.Bool.{◌&&◌}
+use Rattle.judging.specs.Layout.{all_zero, part}
+use Rattle.judging.proofs.LayoutLaws.{not-long, not-variables, not-clauses, not-literals, not-zero, ends-tell}
+use Rattle.judging.proofs.layout.layout_ok.Goals.{then-all_zero, else-all_zero, then-all_zero-2, else-all_zero-2}
 use Rattle.judging.proofs.layout.layout_ok.Goals as goal
 
 pub returns-then-t-ne-TABLE : goal.returns-then-t-ne-TABLE
@@ -17,13 +21,29 @@ pub returns-then-m-gt-LITERALS : goal.returns-then-m-gt-LITERALS
 returns-then-m-gt-LITERALS c = not-literals _ _ c.if-t-ne-TABLE.false c.if-v-gt-VARIABLES.false c.if-n-gt-CLAUSES.false c.if-m-gt-LITERALS.true
 
 pub returns-then-all_zero-3 : goal.returns-then-all_zero-3
-returns-then-all_zero-3 c = ends-tell _ _ c.if-t-ne-TABLE.false c.if-v-gt-VARIABLES.false c.if-n-gt-CLAUSES.false c.if-m-gt-LITERALS.false (sym c.all_zero.ensures ∙ c.if-all_zero.true) (sym c.all_zero-then-all_zero.ensures ∙ c.if-all_zero-2.true) (sym c.all_zero-then-all_zero-2.ensures ∙ c.if-all_zero-3.true) _ c.ends_up_to.ensures
+returns-then-all_zero-3 c =
+    let t = c.args.t.now in
+    let k = c.args.c in
+    let a : c.if-all_zero.value ≡ all_zero (part t k.variables 1023) && all_zero (part t (1023 + k.clauses) 3070) = elim c.if-all_zero.branch [
+      | then-all_zero w ↦ w.value-is ∙ w.all_zero-then-all_zero.ensures ∙ rw (sym c.all_zero.ensures ∙ w.if-all_zero.true)
+      | else-all_zero w ↦ w.value-is ∙ rw (sym c.all_zero.ensures ∙ w.if-all_zero.false) w.if-all_zero.false
+    ] in
+    let b : c.if-all_zero-2.value ≡ (all_zero (part t k.variables 1023) && all_zero (part t (1023 + k.clauses) 3070)) && all_zero (part t (3070 + k.literals) 11261) = elim c.if-all_zero-2.branch [
+      | then-all_zero-2 w ↦ w.value-is ∙ w.all_zero-then-all_zero-2.ensures ∙ rw (sym a ∙ w.if-all_zero-2.true)
+      | else-all_zero-2 w ↦ w.value-is ∙ rw (sym a ∙ w.if-all_zero-2.false) w.if-all_zero-2.false
+    ] in
+    ends-tell _ _ c.if-t-ne-TABLE.false c.if-v-gt-VARIABLES.false c.if-n-gt-CLAUSES.false c.if-m-gt-LITERALS.false (sym b ∙ c.if-all_zero-3.true) _ c.ends_up_to.ensures
 
-pub returns-then-all_zero-2 : goal.returns-then-all_zero-2
-returns-then-all_zero-2 c = not-zero-3 _ _ c.if-t-ne-TABLE.false c.if-v-gt-VARIABLES.false c.if-n-gt-CLAUSES.false c.if-m-gt-LITERALS.false (sym c.all_zero.ensures ∙ c.if-all_zero.true) (sym c.all_zero-then-all_zero.ensures ∙ c.if-all_zero-2.true) (sym c.all_zero-then-all_zero-2.ensures ∙ c.if-all_zero-3.false)
-
-pub returns-then-all_zero : goal.returns-then-all_zero
-returns-then-all_zero c = not-zero-2 _ _ c.if-t-ne-TABLE.false c.if-v-gt-VARIABLES.false c.if-n-gt-CLAUSES.false c.if-m-gt-LITERALS.false (sym c.all_zero.ensures ∙ c.if-all_zero.true) (sym c.all_zero-then-all_zero.ensures ∙ c.if-all_zero-2.false)
-
-pub returns : goal.returns
-returns c = not-zero-1 _ _ c.if-t-ne-TABLE.false c.if-v-gt-VARIABLES.false c.if-n-gt-CLAUSES.false c.if-m-gt-LITERALS.false (sym c.all_zero.ensures ∙ c.if-all_zero.false)
+pub returns-else-all_zero-3 : goal.returns-else-all_zero-3
+returns-else-all_zero-3 c =
+    let t = c.args.t.now in
+    let k = c.args.c in
+    let a : c.if-all_zero.value ≡ all_zero (part t k.variables 1023) && all_zero (part t (1023 + k.clauses) 3070) = elim c.if-all_zero.branch [
+      | then-all_zero w ↦ w.value-is ∙ w.all_zero-then-all_zero.ensures ∙ rw (sym c.all_zero.ensures ∙ w.if-all_zero.true)
+      | else-all_zero w ↦ w.value-is ∙ rw (sym c.all_zero.ensures ∙ w.if-all_zero.false) w.if-all_zero.false
+    ] in
+    let b : c.if-all_zero-2.value ≡ (all_zero (part t k.variables 1023) && all_zero (part t (1023 + k.clauses) 3070)) && all_zero (part t (3070 + k.literals) 11261) = elim c.if-all_zero-2.branch [
+      | then-all_zero-2 w ↦ w.value-is ∙ w.all_zero-then-all_zero-2.ensures ∙ rw (sym a ∙ w.if-all_zero-2.true)
+      | else-all_zero-2 w ↦ w.value-is ∙ rw (sym a ∙ w.if-all_zero-2.false) w.if-all_zero-2.false
+    ] in
+    c.if-all_zero-3.false ∙ not-zero _ _ c.if-t-ne-TABLE.false c.if-v-gt-VARIABLES.false c.if-n-gt-CLAUSES.false c.if-m-gt-LITERALS.false (sym b ∙ c.if-all_zero-3.false)

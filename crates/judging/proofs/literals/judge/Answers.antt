@@ -7,5 +7,5 @@ use Rattle.judging.proofs.literals.judge.Goals as goal
 pub returns-then-well_formed : goal.returns-then-well_formed
 returns-then-well_formed c = judged-good _ _ (sym c.well_formed-2.ensures ∙ c.if-well_formed.true)
 
-pub returns : goal.returns
-returns c = judged-bad _ _ (sym c.well_formed-2.ensures ∙ c.if-well_formed.false)
+pub returns-else-well_formed : goal.returns-else-well_formed
+returns-else-well_formed c = judged-bad _ _ (sym c.well_formed-2.ensures ∙ c.if-well_formed.false)

@@ -4,14 +4,14 @@ use lib.ListN.{length}
 use Rattle.lines.proofs.Parts.{prefix-none, first_counted, rest-counts, rest-counted}
 use Rattle.lines.proofs.prefixes.prefix_size.Goals as goal
 
-pub returns-then-prefix-eq0 : goal.returns-then-prefix-eq0
-returns-then-prefix-eq0 c = record { is = ap length (prefix-none _ c.if-prefix-eq0.true); few = omega arith }
+pub returns-in_default : goal.returns-in_default
+returns-in_default c = record { is = ap length (prefix-none _ (omega arith)); few = omega arith }
 
-pub loop-i-init : goal.loop-i-init
-loop-i-init c = (first_counted _ c.if-prefix-eq0.false _ c.number_size-n.ensures, omega arith, omega arith)
+pub loop-e-init : goal.loop-e-init
+loop-e-init c = (first_counted _ c.in-len1-up.len_at_least _ c.number_size-n.ensures, omega arith)
 
-pub loop-i-preserved : goal.loop-i-preserved
-loop-i-preserved c = (rest-counts _ c.loop-i.i _ _ _ c.loop-i.invariant.0 (omega arith) _ c.entry_size-n.ensures.is, omega arith, omega arith)
+pub loop-e-preserved : goal.loop-e-preserved
+loop-e-preserved c = (rest-counts _ c.loop-e.e-index _ _ _ c.loop-e.invariant.0 (omega arith) _ c.entry_size-n.ensures.is, omega arith)
 
 pub returns : goal.returns
-returns c = record { is = rest-counted _ c.loop-i.i _ _ _ c.loop-i.invariant.0 (omega arith); few = omega arith }
+returns c = record { is = rest-counted _ c.loop-e.e-index _ _ _ c.loop-e.invariant.0 (omega arith); few = omega arith }

@@ -1,6 +1,7 @@
 -- The loop's invariant: what is left decides.
 -- Assumes nothing.
 use mathlib.Core.Path.{refl, sym, ◌∙◌}
+use native.Mathlib.Omega.{arith}
 use Rattle.permits.proofs.ScanLaws.{first_stops, first-turn, first-end}
 use Rattle.permits.proofs.expansion.universals_first.Goals as goal
 
@@ -8,10 +9,10 @@ pub loop-i-init : goal.loop-i-init
 loop-i-init c = refl
 
 pub returns-then-prefix-i-eq0 : goal.returns-then-prefix-i-eq0
-returns-then-prefix-i-eq0 c = c.all_exist.ensures ∙ sym (c.loop-i.invariant ∙ first_stops _ _ c.loop-i-test.true c.if-prefix-i-eq0.true)
+returns-then-prefix-i-eq0 c = c.all_exist.ensures ∙ sym (c.loop-i.invariant ∙ first_stops c.args.prefix.now c.loop-i.i (omega arith) c.if-prefix-i-eq0.true)
 
 pub loop-i-preserved : goal.loop-i-preserved
-loop-i-preserved c = c.loop-i.invariant ∙ first-turn _ _ c.loop-i-test.true c.if-prefix-i-eq0.false
+loop-i-preserved c = c.loop-i.invariant ∙ first-turn c.args.prefix.now c.loop-i.i (omega arith) c.if-prefix-i-eq0.false
 
 pub returns : goal.returns
-returns c = sym (c.loop-i.invariant ∙ first-end _ _ c.loop-i-test.false)
+returns c = sym (c.loop-i.invariant ∙ first-end c.args.prefix.now c.loop-i.i (omega arith))

@@ -4,7 +4,7 @@ use mathlib.Core.Path.{refl, sym, ap, ◌∙◌}
 use mathlib.Core.List.{[]}
 use native.Mathlib.Omega.{arith}
 use Rattle.meaning.specs.Lists.{has}
-use Rattle.table.proofs.HoldLaws.{bounds, count-clauses}
+use Rattle.table.proofs.HoldLaws.{count-clauses}
 use Rattle.table.proofs.LoopLaws.{any_found, any-turn, any-end}
 use Rattle.rules.specs.Simplify.{occurs}
 use borrow.Author.Rules.{rules}
@@ -17,14 +17,11 @@ pub clause_at-requires-clause-held : goal.clause_at-requires-clause-held
 clause_at-requires-clause-held c = c.requires
 
 pub clause_at-requires-clause-i_lt_clauses : goal.clause_at-requires-clause-i_lt_clauses
-clause_at-requires-clause-i_lt_clauses c = c.loop-i-test.true
+clause_at-requires-clause-i_lt_clauses c = (omega arith)
 
 pub returns-then-contains : goal.returns-then-contains
 unfolding occurs
 returns-then-contains c = λ φ h. any_found (has _) [] φ.clauses c.loop-i.i (c.loop-i.invariant.1 φ h) (omega (arith, count-clauses h)) (ap (has _) (sym (c.clause_at.ensures φ h)) ∙ sym c.contains.ensures ∙ c.if-contains.true)
-
-pub overflow_add-i : goal.overflow_add-i
-overflow_add-i c = let b = bounds c.requires in omega arith
 
 pub loop-i-preserved : goal.loop-i-preserved
 loop-i-preserved c = (search rules, λ φ h. any-turn (has _) [] φ.clauses c.loop-i.i (c.loop-i.invariant.1 φ h) (omega (arith, count-clauses h)) (ap (has _) (sym (c.clause_at.ensures φ h)) ∙ sym c.contains.ensures ∙ c.if-contains.false))

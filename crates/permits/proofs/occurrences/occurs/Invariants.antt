@@ -1,6 +1,6 @@
 -- The loop's invariant: the clauses that are left decide whether the literal occurs.
 -- Assumes nothing.
-use Prim.Native.Nat.{◌≤◌, ◌-◌}
+use Prim.Native.Nat.{◌≤◌}
 use mathlib.Core.Path.{◌≡◌}
 use lib.ListN.{drop}
 use Rattle.meaning.specs.Formula.{Formula}
@@ -10,6 +10,3 @@ use Rattle.permits.proofs.occurrences.occurs.Given as goal
 
 abbrev pub invariant-loop-i : goal.invariant-loop-i
 invariant-loop-i l = (l.i ≤ l.c.clauses) × ((φ : Formula) → Holds φ l.t l.c → any_of (has l.literal) φ.clauses ≡ any_of (has l.literal) (drop l.i φ.clauses))
-
-abbrev pub decreases-loop-i : goal.decreases-loop-i
-decreases-loop-i l = l.c.clauses - l.i

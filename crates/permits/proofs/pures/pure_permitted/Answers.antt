@@ -1,6 +1,6 @@
 -- By whether it is there, and then by its phases.
 -- Assumes nothing.
-use mathlib.Core.Path.{ap}
+use mathlib.Core.Path.{ap, ◌∙◌}
 use mathlib.Core.Bool.{not}
 use Rattle.rules.specs.Simplify.{pure_permitted}
 use Rattle.permits.proofs.AndLaws.{and_second}
@@ -15,5 +15,5 @@ pub returns-then-in_prefix : goal.returns-then-in_prefix
 unfolding pure_permitted
 returns-then-in_prefix c = λ φ h w e. and_second _ _ _ _ (c.in_prefix.ensures φ.prefix e (entries-of φ w h.fitting)) c.if-in_prefix.true (ap not (c.both_occur.ensures φ h))
 
-pub returns : goal.returns
-returns c = λ φ h w e. pure-out φ _ _ (c.in_prefix.ensures φ.prefix e (entries-of φ w h.fitting)) c.if-in_prefix.false
+pub returns-else-in_prefix : goal.returns-else-in_prefix
+returns-else-in_prefix c = λ φ h w e. c.if-in_prefix.false ∙ pure-out φ _ _ (c.in_prefix.ensures φ.prefix e (entries-of φ w h.fitting)) c.if-in_prefix.false

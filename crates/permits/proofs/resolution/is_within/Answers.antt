@@ -1,22 +1,14 @@
--- The loop's invariant: what is left of the clause decides.
+-- Each literal's variable by its place.
 -- Assumes nothing.
-use mathlib.Core.Path.{refl}
-use native.Mathlib.Omega.{arith}
-use Rattle.permits.proofs.SideLaws.{within-fails, within-turn, within_end}
-use borrow.Author.Rules.{rules}
+use Rattle.std.proofs.Common.{◌∙◌, sym, rules, tests}
+use Rattle.std.proofs.lemmas.Iterator.{YieldsList-from_slice}
+use Rattle.std.proofs.lemmas.Iterator.Search.{all_from_yields_List}
+use lib.Dec.{leb}
+use Rattle.meaning.specs.Formula.{var}
+use Rattle.meaning.proofs.StdLists.{all_of-std}
+use Rattle.permits.specs.Places.{place_of, within}
 use Rattle.permits.proofs.resolution.is_within.Goals as goal
 
-pub loop-i-init : goal.loop-i-init
-loop-i-init c = (search rules, λ p e g. refl)
-
-pub overflow_cast-v : goal.overflow_cast-v
-overflow_cast-v c = omega (arith, c.type_inv.clause c.loop-i.i)
-
-pub loop-i-preserved : goal.loop-i-preserved
-loop-i-preserved c = (search rules, λ p e g. within-turn p _ _ c.loop-i.i (c.loop-i.invariant.1 p e g) _ (c.place_of.ensures p e g) (omega arith) c.if-place_of-n.true)
-
-pub returns-else-place_of-n : goal.returns-else-place_of-n
-returns-else-place_of-n c = λ p e g. within-fails p _ _ c.loop-i.i (c.loop-i.invariant.1 p e g) _ (c.place_of.ensures p e g) (omega arith) c.if-place_of-n.false
-
 pub returns : goal.returns
-returns c = λ p e g. within_end p _ _ c.loop-i.i (c.loop-i.invariant.1 p e g) (omega arith)
+unfolding within var
+returns c = λ p e g. all_from_yields_List (λ l. leb (place_of p (var l)) c.args.n) _ _ _ c.all.ensures.ran (YieldsList-from_slice c.args.clause.now cc) (λ x b q k. search (rules, tests)) ∙ sym (all_of-std _ _)

@@ -1,6 +1,6 @@
 -- The loop's invariant: the clauses that are left decide.
 -- Assumes nothing.
-use Prim.Native.Nat.{◌≤◌, ◌-◌}
+use Prim.Native.Nat.{◌≤◌}
 use mathlib.Core.Path.{◌≡◌}
 use mathlib.Core.Bool.{true}
 use lib.ListN.{drop}
@@ -14,6 +14,3 @@ use Rattle.permits.proofs.resolution.side_within.Given as goal
 
 abbrev pub invariant-loop-i : goal.invariant-loop-i
 invariant-loop-i l = (l.i ≤ l.c.clauses) × ((φ : Formula) → Holds φ l.t l.c → well_formed φ ≡ true → l.ranks ≡ ranks_of φ.prefix → all_of (near φ.prefix l.literal l.n) φ.clauses ≡ all_of (near φ.prefix l.literal l.n) (drop l.i φ.clauses))
-
-abbrev pub decreases-loop-i : goal.decreases-loop-i
-decreases-loop-i l = l.c.clauses - l.i

@@ -1,20 +1,11 @@
--- The loop's invariant: what is left of x has the first literal.
+-- The first literal that passes.
 -- Assumes nothing.
-use mathlib.Core.Path.{refl, sym, ◌∙◌}
-use native.Mathlib.Omega.{arith}
+use Rattle.std.proofs.Common.{◌∙◌, rules, tests}
+use Rattle.std.proofs.lemmas.Iterator.{YieldsList-from_slice}
+use Rattle.std.proofs.lemmas.Iterator.Search.{find_from_yields_List}
 use Rattle.rules.specs.Simplify.{strengthens}
-use Rattle.permits.proofs.StrengthenLaws.{first_found, first-turn, first-end}
-use borrow.Author.Rules.{rules}
+use Rattle.permits.proofs.StrengthenLaws.{first-find}
 use Rattle.permits.proofs.strengthening.first_strengthening.Goals as goal
 
-pub loop-i-init : goal.loop-i-init
-loop-i-init c = (search rules, λ p e g. refl)
-
-pub returns-then-strengthens_by : goal.returns-then-strengthens_by
-returns-then-strengthens_by c = λ p e g. first_found (strengthens p _ _) _ c.loop-i.i (c.loop-i.invariant.1 p e g) (omega arith) (sym (c.strengthens_by.ensures p e g) ∙ c.if-strengthens_by.true)
-
-pub loop-i-preserved : goal.loop-i-preserved
-loop-i-preserved c = (search rules, λ p e g. first-turn (strengthens p _ _) _ c.loop-i.i (c.loop-i.invariant.1 p e g) (omega arith) (sym (c.strengthens_by.ensures p e g) ∙ c.if-strengthens_by.false))
-
 pub returns : goal.returns
-returns c = λ p e g. first-end (strengthens p _ _) _ c.loop-i.i (c.loop-i.invariant.1 p e g) (omega arith)
+returns c = λ p e g. c.copied.ensures ∙ find_from_yields_List (strengthens p c.args.x.now c.args.y.now) _ _ _ c.find.ensures.ran (YieldsList-from_slice c.args.x.now cc) (λ x b q k. search (rules, tests)) ∙ first-find _ _

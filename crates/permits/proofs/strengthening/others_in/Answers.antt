@@ -1,21 +1,12 @@
--- The loop's invariant: what is left of x decides.
+-- Each literal of x is l or in y.
 -- Assumes nothing.
-use mathlib.Core.Path.{refl, sym, ◌∙◌}
-use native.Mathlib.Omega.{arith}
-use Rattle.table.proofs.LoopLaws.{all-fails, all-turn, all_end}
+use Rattle.std.proofs.Common.{◌∙◌, sym, rules, tests}
+use Rattle.std.proofs.lemmas.Iterator.{YieldsList-from_slice}
+use Rattle.std.proofs.lemmas.Iterator.Search.{all_from_yields_List}
+use Rattle.meaning.proofs.StdLists.{all_of-std}
 use Rattle.permits.specs.Choices.{is_or_in}
 use Rattle.permits.proofs.StrengthenLaws.{others-all}
-use borrow.Author.Rules.{rules}
 use Rattle.permits.proofs.strengthening.others_in.Goals as goal
 
-pub loop-i-init : goal.loop-i-init
-loop-i-init c = (search rules, refl)
-
-pub loop-i-preserved : goal.loop-i-preserved
-loop-i-preserved c = (search rules, all-turn (is_or_in _ _) 0 _ c.loop-i.i c.loop-i.invariant.1 (omega arith) (sym c.is_or_in.ensures ∙ c.if-is_or_in.true))
-
-pub returns-else-is_or_in : goal.returns-else-is_or_in
-returns-else-is_or_in c = all-fails (is_or_in _ _) 0 _ c.loop-i.i c.loop-i.invariant.1 (omega arith) (sym c.is_or_in.ensures ∙ c.if-is_or_in.false) ∙ others-all _ _ _
-
 pub returns : goal.returns
-returns c = all_end (is_or_in _ _) 0 _ c.loop-i.i c.loop-i.invariant.1 (omega arith) ∙ others-all _ _ _
+returns c = all_from_yields_List (is_or_in c.args.l c.args.y.now) _ _ _ c.all.ensures.ran (YieldsList-from_slice c.args.x.now cc) (λ x b q k. search (rules, tests)) ∙ sym (all_of-std _ _) ∙ others-all _ _ _

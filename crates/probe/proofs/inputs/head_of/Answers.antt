@@ -3,5 +3,5 @@
 use mathlib.Core.Path.{refl}
 use Rattle.probe.proofs.inputs.head_of.Goals as goal
 
-pub returns-clause-second_value : goal.returns-clause-second_value
-returns-clause-second_value c = refl
+pub returns-clause-second : goal.returns-clause-second
+returns-clause-second c = refl

@@ -4,4 +4,4 @@ use native.Mathlib.Omega.{arith}
 use Rattle.probe.proofs.inputs.take_table.Goals as goal
 
 pub returns-clause-taken : goal.returns-clause-taken
-returns-clause-taken g c = λ e. record { table = omega arith; given = omega arith; bytes = omega arith; filled = c.fill.ensures }
+returns-clause-taken g c = record { table = omega arith; given = omega arith; bytes = omega arith; filled = c.fill.ensures }

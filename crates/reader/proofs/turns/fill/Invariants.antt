@@ -7,8 +7,7 @@ use Rattle.reader.proofs.TurnLaws.{Filling}
 use Rattle.reader.proofs.turns.fill.Given as goal
 
 abbrev pub invariant-loop-a : goal.invariant-loop-a
-invariant-loop-a l = Filling l.text l.at l.r l.table l.scratch l.ranks l.marks × (length l.table ≡ length l.initial.table) × (length l.scratch ≡ length l.initial.scratch) × (length l.ranks ≡ length l.initial.ranks)
-    × (length l.marks ≡ length l.initial.marks)
+invariant-loop-a l = Filling l.text l.at l.r l.table l.scratch l.ranks l.marks × (length l.table ≡ length l.initial.table) × (length l.marks ≡ length l.initial.marks)
 
 abbrev pub decreases-loop-a : goal.decreases-loop-a
 decreases-loop-a l = length l.text - l.at

@@ -3,4 +3,4 @@
 use Rattle.reader.proofs.turns.judge.Goals as goal
 
 pub returns : goal.returns
-returns c = λ p h e. let b = c.seen-b.ensures p h e in cc
+returns c = λ p h e. let b = c.seen-known.ensures p h e in cc

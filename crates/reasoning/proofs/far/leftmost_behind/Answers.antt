@@ -1,26 +1,19 @@
--- The loop's invariant: the leftmost one is among what is left.
+-- The library's first element that passes.
 -- Assumes nothing.
-use mathlib.Core.Path.{refl, sym, ◌∙◌}
-use native.Mathlib.Omega.{arith}
-use Rattle.meaning.specs.Formula.{var}
+use Rattle.std.proofs.Common.{◌∙◌, refl, ap, ◌/◌, ℕ, rules, tests}
+use Rattle.std.specs.Prelude.{Option, unwrap_or}
+use Rattle.std.proofs.lemmas.Iterator.{YieldsList-from_slice}
+use Rattle.std.proofs.lemmas.Iterator.Adapters.{YieldsList-from_skip}
+use Rattle.std.proofs.lemmas.Iterator.Search.{find_from_yields_List}
+use Rattle.meaning.specs.Formula.{var, mentions}
 use Rattle.reasons.specs.Reason.{leftmost_in}
-use Rattle.reasoning.proofs.BehindLaws.{first_found, first-turn, first-none}
+use Rattle.reasoning.proofs.BehindLaws.{first-is}
 use Rattle.reasoning.proofs.far.leftmost_behind.Goals as goal
 
-pub loop-at-init : goal.loop-at-init
-loop-at-init c = refl
-
-pub overflow_cast-v : goal.overflow_cast-v
-overflow_cast-v c = omega (arith, c.type_inv.prefix c.loop-at.at)
-
-pub returns-then-has_variable : goal.returns-then-has_variable
-unfolding leftmost_in var
-returns-then-has_variable c = first_found _ _ c.loop-at.at c.loop-at.invariant c.loop-at-test.true (sym c.has_variable.ensures ∙ c.if-has_variable.true)
-
-pub loop-at-preserved : goal.loop-at-preserved
-unfolding var
-loop-at-preserved c = first-turn _ _ c.loop-at.at c.loop-at.invariant c.loop-at-test.true (sym c.has_variable.ensures ∙ c.if-has_variable.false)
-
 pub returns : goal.returns
-unfolding leftmost_in
-returns c = first-none _ _ c.loop-at.at c.loop-at.invariant c.loop-at-test.false
+unfolding leftmost_in var
+returns c =
+    let e = find_from_yields_List (λ q. mentions c.args.clause.now (var q)) _ _ c.find-first.result c.find-first.ensures.ran
+    (YieldsList-from_skip c.args.n (YieldsList-from_slice c.args.prefix.now cc) cc) (λ x b q k. search (rules, tests)) in
+    ap (λ (n : ℕ). n / 2)
+    (c.unwrap_or.ensures ∙ ap (λ (o : Option ℕ). unwrap_or o 0) (c.copied.ensures ∙ e) ∙ first-is (λ q. mentions c.args.clause.now (var q)) (λ q. mentions c.args.clause.now (var q)) (λ q. refl) _)

@@ -2,15 +2,12 @@
 -- Assumes nothing.
 use mathlib.Core.Path.{sym, ◌∙◌}
 use Rattle.meaning.proofs.Prefix.{forall-mentioned}
-use Rattle.choice.proofs.TurnLaws.{ranked-held, ranked-length}
+use Rattle.choice.proofs.TurnLaws.{ranked-held}
 use Rattle.reasoning.proofs.StepLaws.{between_is}
 use Rattle.reasoning.proofs.looking.why_universal.Goals as goal
 
-pub expand_permitted-requires-clause-held : goal.expand_permitted-requires-clause-held
-expand_permitted-requires-clause-held c = ranked-held c.requires.0
-
-pub expand_permitted-requires-clause-ranks_len : goal.expand_permitted-requires-clause-ranks_len
-expand_permitted-requires-clause-ranks_len c = ranked-length c.requires.0
+pub expand_permitted-requires : goal.expand_permitted-requires
+expand_permitted-requires c = record { held = ranked-held c.requires.0 }
 
 pub why_expand-requires-clause-ranked : goal.why_expand-requires-clause-ranked
 why_expand-requires-clause-ranked c = c.requires
@@ -21,17 +18,11 @@ why_expand-requires-clause-u_value c = λ φ g. sym (c.expand_permitted.ensures 
 pub returns-then-expand_permitted : goal.returns-then-expand_permitted
 returns-then-expand_permitted c = λ φ g q h. c.why_expand.ensures φ g
 
-pub existential_after-e-requires-clause-held : goal.existential_after-e-requires-clause-held
-existential_after-e-requires-clause-held c = ranked-held c.requires.0
+pub existential_after-e-requires : goal.existential_after-e-requires
+existential_after-e-requires c = record { held = ranked-held c.requires.0 }
 
-pub existential_after-e-requires-clause-ranks_len : goal.existential_after-e-requires-clause-ranks_len
-existential_after-e-requires-clause-ranks_len c = ranked-length c.requires.0
-
-pub universal_after-requires-clause-held : goal.universal_after-requires-clause-held
-universal_after-requires-clause-held c = ranked-held c.requires.0
-
-pub universal_after-requires-clause-ranks_len : goal.universal_after-requires-clause-ranks_len
-universal_after-requires-clause-ranks_len c = ranked-length c.requires.0
+pub universal_after-requires : goal.universal_after-requires
+universal_after-requires c = record { held = ranked-held c.requires.0 }
 
 pub returns : goal.returns
 returns c = λ φ g q h. between_is _ φ _ g.well _ (c.expand_permitted.ensures φ g.holds g.well g.ranked) c.if-expand_permitted.false q h _ _ (c.existential_after-e.ensures φ g.holds g.well g.ranked (forall-mentioned φ.prefix _ h)) (c.universal_after.ensures φ g.holds g.well g.ranked)

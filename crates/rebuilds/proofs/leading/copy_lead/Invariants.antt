@@ -1,7 +1,6 @@
 -- The loop's invariant: what is left of the clauses goes on from what is in the target, and all clauses of the target are among those of
 -- the source before this one.
 -- Assumes nothing.
-use Prim.Native.Nat.{◌-◌}
 use mathlib.Core.Path.{◌≡◌}
 use lib.ListN.{length, take, drop}
 use Rattle.meaning.specs.Formula.{Formula}
@@ -13,6 +12,3 @@ use Rattle.rebuilds.proofs.leading.copy_lead.Given as goal
 
 abbrev pub invariant-loop-i : goal.invariant-loop-i
 invariant-loop-i l = (length l.target ≡ length l.initial.target) × Among (take l.i (decode l.source l.c).clauses) l.target l.e × ((φ ψ : Formula) → Holds φ l.source l.c → Holds ψ l.initial.target l.initial.e → Going ψ (raws_by l.which l.turn ψ.prefix 0 φ.clauses) (raws_by l.which l.turn ψ.prefix l.i (drop l.i φ.clauses)) l.initial.e.second l.target l.e)
-
-abbrev pub decreases-loop-i : goal.decreases-loop-i
-decreases-loop-i l = l.c.clauses - l.i

@@ -23,23 +23,12 @@ slice_bounds-rank_prefix-end-2 c =
 pub rank_prefix-requires : goal.rank_prefix-requires
 rank_prefix-requires c =
     let copied' : Held c.copy_prefix-d.new.target c.copy_prefix-d.result = held (c.copy_prefix-d.ensures.holds c.requires.held.formula c.requires.held.holds) in
-    let b = bounds copied' in (c.requires.scratch_len.1, omega (arith, length-take-le c.copy_prefix-d.result.variables c.copy_prefix-d.new.target (omega arith)))
-
-pub add_all-requires-clause-held : goal.add_all-requires-clause-held
-add_all-requires-clause-held c = c.requires.held
-
-pub add_all-requires-clause-held_2 : goal.add_all-requires-clause-held_2
-add_all-requires-clause-held_2 c =
-    let copied' : Held c.copy_prefix-d.new.target c.copy_prefix-d.result = held (c.copy_prefix-d.ensures.holds c.requires.held.formula c.requires.held.holds) in
-    copied'
+    let b = bounds copied' in omega (arith, length-take-le c.copy_prefix-d.result.variables c.copy_prefix-d.new.target (omega arith))
 
 pub add_all-requires-clause-ready : goal.add_all-requires-clause-ready
 add_all-requires-clause-ready c =
     let ready' : Ready (take c.copy_prefix-d.result.variables c.copy_prefix-d.new.target) c.rank_prefix.new.ranks = ranked-ready (c.copy_prefix-d.ensures.holds c.requires.held.formula c.requires.held.holds) (copied-good c.requires.held.holds (source-good c.requires.held.holds c.requires.c_value.0) _) _ _ c.rank_prefix.ensures in
     ready'
-
-pub add_all-requires-clause-scratch_len : goal.add_all-requires-clause-scratch_len
-add_all-requires-clause-scratch_len c = c.requires.scratch_len.0
 
 pub add_all-requires-clause-shrunk : goal.add_all-requires-clause-shrunk
 add_all-requires-clause-shrunk c = (shrunk-copied c.requires.held.holds c.requires.c_value.0 _ (c.copy_prefix-d.ensures.holds c.requires.held.formula c.requires.held.holds), c.requires.c_value.1)

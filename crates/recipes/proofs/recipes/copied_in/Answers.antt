@@ -1,11 +1,8 @@
 -- By the place of the literal's variable.
 -- Assumes nothing.
 use native.Mathlib.Omega.{arith}
-use Rattle.recipes.proofs.RecipeLaws.{ready-length, place-small, copied-far, copied-near}
+use Rattle.recipes.proofs.RecipeLaws.{place-small, copied-far, copied-near}
 use Rattle.recipes.proofs.recipes.copied_in.Goals as goal
-
-pub place_of-at-requires : goal.place_of-at-requires
-place_of-at-requires c = ready-length c.requires
 
 pub overflow_add-at : goal.overflow_add-at
 overflow_add-at c = omega (arith, place-small c.requires _ _ (c.place_of-at.ensures _ c.requires.ranked c.requires.good))

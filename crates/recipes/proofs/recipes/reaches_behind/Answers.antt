@@ -1,21 +1,18 @@
--- The loop's invariant: what is left of the clause decides.
+-- Each literal's variable by its place.
 -- Assumes nothing.
-use mathlib.Core.Path.{refl}
-use native.Mathlib.Omega.{arith}
-use Rattle.recipes.proofs.RecipeLaws.{reaches-found, reaches-turn, reaches_end}
+use Rattle.std.proofs.Common.{◌∙◌, sym, rules, tests}
+use Rattle.std.proofs.lemmas.Iterator.{YieldsList-from_slice}
+use Rattle.std.proofs.lemmas.Iterator.Search.{any_from_yields_List}
+use lib.Dec.{ltb}
+use Rattle.meaning.specs.Formula.{var}
+use Rattle.meaning.proofs.StdLists.{any_of-std}
+use Rattle.permits.specs.Places.{place_of}
+use Rattle.recipes.specs.Recipe.{reaches}
 use Rattle.recipes.proofs.recipes.reaches_behind.Goals as goal
 
-pub loop-i-init : goal.loop-i-init
-loop-i-init c = (omega arith, λ q r. refl)
-
-pub overflow_cast-v : goal.overflow_cast-v
-overflow_cast-v c = omega (arith, c.type_inv.clause c.loop-i.i)
-
-pub returns-then-place-place_of : goal.returns-then-place-place_of
-returns-then-place-place_of c = λ q r. reaches-found q _ _ c.loop-i.i (c.loop-i.invariant.1 q r) _ (c.place_of.ensures q r.ranked r.good) (omega arith) c.if-place-place_of.true
-
-pub loop-i-preserved : goal.loop-i-preserved
-loop-i-preserved c = (omega arith, λ q r. reaches-turn q _ _ c.loop-i.i (c.loop-i.invariant.1 q r) _ (c.place_of.ensures q r.ranked r.good) (omega arith) c.if-place-place_of.false)
-
 pub returns : goal.returns
-returns c = λ q r. reaches_end q _ _ c.loop-i.i (c.loop-i.invariant.1 q r) (omega arith)
+unfolding reaches var
+returns c =
+    λ q r. let a = r.ranked in let b = r.good in
+    any_from_yields_List (λ l. ltb c.args.place (place_of q (var l))) _ _ _ c.any.ensures.ran (YieldsList-from_slice c.args.clause.now cc) (λ x b q k. search (rules, tests))
+    ∙ sym (any_of-std _ _)

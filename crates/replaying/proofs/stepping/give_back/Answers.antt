@@ -3,18 +3,10 @@
 use Rattle.replaying.specs.Stepping.{given_back}
 use Rattle.replaying.proofs.stepping.give_back.Goals as goal
 
-pub returns-in-Stepped : goal.returns-in-Stepped
+pub returns-in-Ok : goal.returns-in-Ok
 unfolding given_back
-returns-in-Stepped c = rw c.in-Stepped.is
+returns-in-Ok c = rw c.in-Ok.is
 
-pub returns-in-BadEntry : goal.returns-in-BadEntry
+pub returns-in-Err : goal.returns-in-Err
 unfolding given_back
-returns-in-BadEntry c = rw c.in-BadEntry.is
-
-pub returns-in-NotPermitted : goal.returns-in-NotPermitted
-unfolding given_back
-returns-in-NotPermitted c = rw c.in-NotPermitted.is
-
-pub returns-in-NoRoom : goal.returns-in-NoRoom
-unfolding given_back
-returns-in-NoRoom c = rw c.in-NoRoom.is
+returns-in-Err c = rw (c.in-Err.is, c.from.ensures)

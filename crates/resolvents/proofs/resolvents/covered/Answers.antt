@@ -1,20 +1,15 @@
--- The loop's invariant: the literals that are left decide.
+-- The library's test of all elements.
 -- Assumes nothing.
-use mathlib.Core.Path.{refl, sym, ◌∙◌}
-use native.Mathlib.Omega.{arith}
-use Rattle.table.proofs.LoopLaws.{all-fails, all-turn, all_end}
+use Rattle.std.proofs.Common.{◌∙◌, sym, ◌||◌, rules}
+use Rattle.std.proofs.lemmas.Iterator.{YieldsList-from_slice}
+use Rattle.std.proofs.lemmas.Iterator.Search.{all_from_yields_List}
+use Rattle.meaning.specs.Lists.{has}
+use Rattle.meaning.proofs.StdLists.{all_of-std}
 use Rattle.resolvents.specs.Resolvent.{covers}
 use Rattle.resolvents.proofs.resolvents.covered.Goals as goal
 
-pub loop-i-init : goal.loop-i-init
-unfolding covers
-loop-i-init c = (omega arith, refl)
-
-pub loop-i-preserved : goal.loop-i-preserved
-loop-i-preserved c = (omega arith, all-turn _ 0 _ c.loop-i.i c.loop-i.invariant.1 (omega arith) (sym c.in_either.ensures ∙ c.if-in_either.true))
-
-pub returns-else-in_either : goal.returns-else-in_either
-returns-else-in_either c = all-fails _ 0 _ c.loop-i.i c.loop-i.invariant.1 (omega arith) (sym c.in_either.ensures ∙ c.if-in_either.false)
-
 pub returns : goal.returns
-returns c = all_end _ 0 _ c.loop-i.i c.loop-i.invariant.1 (omega arith)
+unfolding covers
+returns c =
+    all_from_yields_List (λ l. has l c.args.x.now || has l c.args.y.now) _ _ _ c.all.ensures.ran (YieldsList-from_slice c.args.clause.now cc) (λ x b q k. search rules)
+    ∙ sym (all_of-std _ _)

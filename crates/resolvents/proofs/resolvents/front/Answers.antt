@@ -1,12 +1,7 @@
--- The whole clause, or the part before a place.
+-- A clause has no part behind its end.
 -- Assumes nothing.
-use mathlib.Core.Path.{sym}
-use native.Mathlib.Omega.{arith}
-use lib.Seq.{length-take-le, take_all}
+use Rattle.std.proofs.lemmas.List.{take_min}
 use Rattle.resolvents.proofs.resolvents.front.Goals as goal
 
-pub returns-then-clause-le-LONG : goal.returns-then-clause-le-LONG
-returns-then-clause-le-LONG c = sym (take_all 32 _ c.if-clause-le-LONG.true)
-
-pub slice_bounds-result-end : goal.slice_bounds-result-end
-slice_bounds-result-end c = sym (length-take-le 32 c.args.clause.now (omega (arith, c.if-clause-le-LONG.false)))
+pub returns : goal.returns
+returns c = rw c.min-end.ensures (take_min 32 _)

@@ -12,6 +12,6 @@ returns-then-clause-ge-LONG c = c.gives_long.ensures
 pub returns-then-fits_in : goal.returns-then-fits_in
 returns-then-fits_in c = λ q g k. c.is_resolvent.ensures q (good-entries q g) k
 
-pub returns : goal.returns
+pub returns-else-fits_in : goal.returns-else-fits_in
 unfolding negated
-returns c = λ q g k. sym (not-fits-negative q _ _ _ c.args.a (sym (c.fits_in.ensures q g k) ∙ c.if-fits_in.false))
+returns-else-fits_in c = λ q g k. c.if-fits_in.false ∙ sym (not-fits-negative q _ _ _ c.args.a (sym (c.fits_in.ensures q g k) ∙ c.if-fits_in.false))

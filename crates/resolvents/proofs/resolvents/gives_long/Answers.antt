@@ -10,8 +10,8 @@ use Rattle.resolvents.proofs.resolvents.gives_long.Goals as goal
 pub returns-then-fits_in : goal.returns-then-fits_in
 returns-then-fits_in c = λ q g k. c.merges_to.ensures q (good-entries q g) k
 
-pub returns : goal.returns
+pub returns-else-fits_in : goal.returns-else-fits_in
 unfolding negated
-returns c =
-    λ q g k. sym (not-fits-negative q _ _ _ c.args.a
+returns-else-fits_in c =
+    λ q g k. c.if-fits_in.false ∙ sym (not-fits-negative q _ _ _ c.args.a
     (front_fits q _ _ 32 _ (ap (fits_in q _ _) (sym c.front.ensures) ∙ sym (c.fits_in.ensures q g k) ∙ c.if-fits_in.false)))

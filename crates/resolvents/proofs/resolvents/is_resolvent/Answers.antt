@@ -7,5 +7,5 @@ use Rattle.resolvents.proofs.resolvents.is_resolvent.Goals as goal
 pub returns-then-covered : goal.returns-then-covered
 returns-then-covered c = c.merges_to.ensures
 
-pub returns : goal.returns
-returns c = λ q g k. sym (not_covered q _ _ _ _ (sym c.covered.ensures ∙ c.if-covered.false))
+pub returns-else-covered : goal.returns-else-covered
+returns-else-covered c = λ q g k. c.if-covered.false ∙ sym (not_covered q _ _ _ _ (sym c.covered.ensures ∙ c.if-covered.false))

@@ -11,6 +11,3 @@ use Rattle.resolving.proofs.pairs.end_with.Given as goal
 
 abbrev pub invariant-loop-i : goal.invariant-loop-i
 invariant-loop-i l = (l.from ≤ l.i) × (l.i ≤ l.c.clauses) × ((φ : Formula) (f : List ℕ → List (List ℕ)) → Holds φ l.source l.c → Silent l.literal f → each_of f (drop l.i φ.clauses) ≡ [])
-
-abbrev pub decreases-loop-i : goal.decreases-loop-i
-decreases-loop-i l = l.i

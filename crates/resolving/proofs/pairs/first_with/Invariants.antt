@@ -1,6 +1,6 @@
 -- The loop's invariant: what comes of clauses with the literal only comes of those that are left.
 -- Assumes nothing.
-use Prim.Native.Nat.{ℕ, ◌≤◌, ◌-◌}
+use Prim.Native.Nat.{ℕ, ◌≤◌}
 use mathlib.Core.Path.{◌≡◌}
 use mathlib.Core.List.{List}
 use lib.ListN.{drop}
@@ -11,6 +11,3 @@ use Rattle.resolving.proofs.pairs.first_with.Given as goal
 
 abbrev pub invariant-loop-i : goal.invariant-loop-i
 invariant-loop-i l = (l.i ≤ l.c.clauses) × ((φ : Formula) (f : List ℕ → List (List ℕ)) → Holds φ l.source l.c → Silent l.literal f → each_of f φ.clauses ≡ each_of f (drop l.i φ.clauses))
-
-abbrev pub decreases-loop-i : goal.decreases-loop-i
-decreases-loop-i l = l.c.clauses - l.i

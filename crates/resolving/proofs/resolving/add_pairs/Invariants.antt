@@ -13,7 +13,7 @@ use Rattle.resolving.specs.Pairs.{each_of, of_pair}
 use Rattle.resolving.proofs.resolving.add_pairs.Given as goal
 
 abbrev pub invariant-loop-i : goal.invariant-loop-i
-invariant-loop-i l = (l.i ≤ l.to) × (length l.target ≡ length l.initial.target) × (length l.scratch ≡ length l.initial.scratch) × ((φ : Formula) → Holds φ l.source l.c → l.i < l.to → has l.negative (get_or φ.clauses l.i []) ≡ true) × ((φ ψ : Formula) → Holds φ l.source l.c → Holds ψ l.initial.target l.initial.e → Going ψ (each_of (of_pair l.positive l.negative l.x) φ.clauses) (each_of (of_pair l.positive l.negative l.x) (drop l.i φ.clauses)) l.initial.e.second l.target l.e)
+invariant-loop-i l = (l.i ≤ l.to) × (length l.target ≡ length l.initial.target) × ((φ : Formula) → Holds φ l.source l.c → l.i < l.to → has l.negative (get_or φ.clauses l.i []) ≡ true) × ((φ ψ : Formula) → Holds φ l.source l.c → Holds ψ l.initial.target l.initial.e → Going ψ (each_of (of_pair l.positive l.negative l.x) φ.clauses) (each_of (of_pair l.positive l.negative l.x) (drop l.i φ.clauses)) l.initial.e.second l.target l.e)
 
 abbrev pub decreases-loop-i : goal.decreases-loop-i
 decreases-loop-i l = l.to - l.i

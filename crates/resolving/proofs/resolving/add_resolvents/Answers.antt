@@ -3,17 +3,5 @@
 use Rattle.resolving.proofs.PairLaws.{within_of}
 use Rattle.resolving.proofs.resolving.add_resolvents.Goals as goal
 
-pub add_by_positive-requires-clause-held : goal.add_by_positive-requires-clause-held
-add_by_positive-requires-clause-held c = c.requires.held
-
-pub add_by_positive-requires-clause-held_2 : goal.add_by_positive-requires-clause-held_2
-add_by_positive-requires-clause-held_2 c = c.requires.held_2
-
-pub add_by_positive-requires-clause-ready : goal.add_by_positive-requires-clause-ready
-add_by_positive-requires-clause-ready c = c.requires.ready
-
-pub add_by_positive-requires-clause-scratch_len : goal.add_by_positive-requires-clause-scratch_len
-add_by_positive-requires-clause-scratch_len c = c.requires.scratch_len
-
 pub add_by_positive-requires-clause-within : goal.add_by_positive-requires-clause-within
 add_by_positive-requires-clause-within c = within_of c.requires.held.holds c.requires.c_value.0 _ _ _ _ c.requires.c_value.1 c.end_with-to.ensures.lower_bound.0 c.end_with-to.ensures.lower_bound.1 c.first_with-from.ensures.f_value c.end_with-to.ensures.result_value

@@ -18,4 +18,4 @@ loop-i-preserved c =
     ]
 
 pub returns : goal.returns
-returns c = preamble-over _ _ _ _ c.loop-i.invariant (omega arith)
+returns c = omega (arith, preamble-over _ _ _ _ c.loop-i.invariant (omega arith))

@@ -1,19 +1,20 @@
-use mathlib.Core.Path.{◌∙◌}
-use native.Mathlib.Omega.{arith}
+use mathlib.Core.Path.{sym, ◌∙◌}
 use mathlib.Core.Logic.{inl, inr}
+use native.Mathlib.Omega.{arith}
+use borrow.Author.Tests.{eqb-true, eqb-false}
 use Rattle.scan.proofs.Numbers.{numeral-empty, numeral-zero, numeral-digits}
-use Rattle.scan.proofs.words.read_numeral.Goals.{else-n-gt1, then-n-gt1+else-b-eq48}
+use Rattle.scan.proofs.words.read_numeral.Goals.{else-word-gt1-via-then-word-gt1+else-word-eq48, else-word-gt1-via-else-word-gt1}
 use Rattle.scan.proofs.words.read_numeral.Goals as goal
 
-pub returns-then-n-eq0 : goal.returns-then-n-eq0
-returns-then-n-eq0 c = numeral-empty _ c.if-n-eq0.true
+pub returns-then-is_empty : goal.returns-then-is_empty
+returns-then-is_empty c = numeral-empty _ (eqb-true _ _ (sym c.is_empty.ensures ∙ c.if-is_empty.true))
 
-pub returns-then-b-eq48 : goal.returns-then-b-eq48
-returns-then-b-eq48 c = numeral-zero _ (omega arith) c.if-b-eq48.true
+pub returns-then-word-eq48 : goal.returns-then-word-eq48
+returns-then-word-eq48 c = numeral-zero _ (omega arith) c.if-word-eq48.true
 
 pub returns : goal.returns
 returns c =
-    c.read_digits.ensures ∙ numeral-digits _ c.if-n-eq0.false (elim c.if-n-gt1.branch [
-      | then-n-gt1+else-b-eq48 w ↦ inr w.if-b-eq48.false
-      | else-n-gt1 w ↦ inl w.if-n-gt1.false
+    c.read_digits.ensures ∙ numeral-digits _ (eqb-false _ _ (sym c.is_empty.ensures ∙ c.if-is_empty.false)) (elim c.else-word-gt1.branch [
+      | else-word-gt1-via-then-word-gt1+else-word-eq48 w ↦ inr w.if-word-eq48.false
+      | else-word-gt1-via-else-word-gt1 w ↦ inl w.if-word-gt1.false
     ])

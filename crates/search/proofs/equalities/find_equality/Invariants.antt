@@ -1,6 +1,6 @@
 -- The loop's invariant: the candidate is among the clauses that are left.
 -- Assumes nothing.
-use Prim.Native.Nat.{ℕ, ◌≤◌, ◌-◌}
+use Prim.Native.Nat.{ℕ}
 use mathlib.Core.Path.{◌≡◌}
 use Rattle.meaning.specs.Formula.{Formula}
 use Rattle.table.specs.Table.{Holds}
@@ -11,8 +11,4 @@ use Rattle.search.proofs.CandidateLaws.{candidate_from}
 use Rattle.search.proofs.equalities.find_equality.Given as goal
 
 abbrev pub invariant-loop-a : goal.invariant-loop-a
-invariant-loop-a l = (l.a ≤ l.c.clauses)
-    × ((φ : Formula) (E : ℕ) → Holds φ l.t l.c → Indexes φ l.index → candidate E φ equality ≡ candidate_from φ equality l.a)
-
-abbrev pub decreases-loop-a : goal.decreases-loop-a
-decreases-loop-a l = l.c.clauses - l.a
+invariant-loop-a l = (φ : Formula) (E : ℕ) → Holds φ l.t l.c → Indexes φ l.index → candidate E φ equality ≡ candidate_from φ equality l.a

@@ -7,25 +7,21 @@ use lib.ListN.{get_or}
 use Rattle.rules.specs.Entry.{pure, uses_b}
 use Rattle.rules.specs.Step.{permitted}
 use Rattle.rules.specs.Choice.{costly, firsts}
-use Rattle.search.specs.declared.Found.TheVariants.{Nothing, Pair}
+use Rattle.std.specs.Prelude.{Some, None}
 use Rattle.table.proofs.HoldLaws.{bounds}
 use Rattle.search.proofs.CandidateLaws.{from_start, only_none, only-found, by-variable, walk-next, walk-found, walk_end}
 use Rattle.search.proofs.LoneLaws.{pure-is}
-use borrow.Author.Rules.{rules}
 use Rattle.search.proofs.pures.find_pure.Goals as goal
 
 pub loop-i-init : goal.loop-i-init
 unfolding costly
-loop-i-init c = (search rules, λ φ E h x. from_start E φ pure refl)
+loop-i-init c = λ φ E h x. from_start E φ pure refl
 
 pub offset_bounds-t-i : goal.offset_bounds-t-i
 offset_bounds-t-i c = let b = bounds c.requires.held in omega arith
 
 pub bounds-t-i : goal.bounds-t-i
 bounds-t-i c = let b = bounds c.requires.held in omega arith
-
-pub is_lone-requires-clause-tallied : goal.is_lone-requires-clause-tallied
-is_lone-requires-clause-tallied c = c.requires.tallied
 
 pub is_lone-requires-clause-v_bound : goal.is_lone-requires-clause-v_bound
 is_lone-requires-clause-v_bound c = omega (arith, c.type_inv.t c.loop-i.i)
@@ -37,21 +33,16 @@ pub returns-then-is_lone : goal.returns-then-is_lone
 unfolding uses_b permitted firsts
 returns-then-is_lone c =
     let v = get_or c.args.t.now c.loop-i.i 0 / 2 in
-    λ φ E h x. walk-found (by-variable h pure refl) E c.loop-i.i (c.loop-i.invariant.1 φ E h x) (omega arith) (Pair v 0)
-    (only-found φ pure v refl _ (pure-is h c.loop-i.i (omega arith) _ (c.is_lone.ensures φ x)) c.if-is_lone.true) v 0 refl
-
-pub overflow_add-i : goal.overflow_add-i
-overflow_add-i c = let b = bounds c.requires.held in omega arith
+    λ φ E h x. walk-found (by-variable h pure refl) E c.loop-i.i (c.loop-i.invariant φ E h x) (omega arith) (Some (v, 0))
+    (only-found φ pure v refl _ (pure-is h c.loop-i.i (omega arith) _ (c.is_lone.ensures φ x)) c.if-is_lone.true) refl
 
 pub loop-i-preserved : goal.loop-i-preserved
 unfolding uses_b permitted firsts
 loop-i-preserved c =
-    let v = get_or c.args.t.now c.loop-i.i 0 / 2 in (
-      search rules,
-      λ φ E h x. walk-next (by-variable h pure refl) E c.loop-i.i (c.loop-i.invariant.1 φ E h x) (omega arith) Nothing
-          (only_none φ pure v refl _ (pure-is h c.loop-i.i (omega arith) _ (c.is_lone.ensures φ x)) c.if-is_lone.false) refl,
-    )
+    let v = get_or c.args.t.now c.loop-i.i 0 / 2 in
+    λ φ E h x. walk-next (by-variable h pure refl) E c.loop-i.i (c.loop-i.invariant φ E h x) (omega arith) None
+    (only_none φ pure v refl _ (pure-is h c.loop-i.i (omega arith) _ (c.is_lone.ensures φ x)) c.if-is_lone.false) refl
 
 pub returns : goal.returns
 unfolding firsts
-returns c = λ φ E h x. walk_end (by-variable h pure refl) E c.loop-i.i (c.loop-i.invariant.1 φ E h x) (omega arith)
+returns c = λ φ E h x. walk_end (by-variable h pure refl) E c.loop-i.i (c.loop-i.invariant φ E h x) (omega arith)

@@ -1,6 +1,6 @@
 -- The loop's invariant: the candidate is among the variables that are left.
 -- Assumes nothing.
-use Prim.Native.Nat.{ℕ, ◌≤◌, ◌-◌}
+use Prim.Native.Nat.{ℕ}
 use mathlib.Core.Path.{◌≡◌}
 use Rattle.meaning.specs.Formula.{Formula}
 use Rattle.table.specs.Table.{Holds}
@@ -11,7 +11,4 @@ use Rattle.search.proofs.CandidateLaws.{candidate_from}
 use Rattle.search.proofs.pures.find_pure.Given as goal
 
 abbrev pub invariant-loop-i : goal.invariant-loop-i
-invariant-loop-i l = (l.i ≤ l.c.variables) × ((φ : Formula) (E : ℕ) → Holds φ l.t l.c → Tallies φ l.tally → candidate E φ pure ≡ candidate_from φ pure l.i)
-
-abbrev pub decreases-loop-i : goal.decreases-loop-i
-decreases-loop-i l = l.c.variables - l.i
+invariant-loop-i l = (φ : Formula) (E : ℕ) → Holds φ l.t l.fn.c → Tallies φ l.tally → candidate E φ pure ≡ candidate_from φ pure l.i

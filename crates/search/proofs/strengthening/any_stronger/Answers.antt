@@ -1,29 +1,20 @@
--- The loop's invariant: the numbers that are left decide.
+-- The closure is the test of the definition.
 -- Assumes nothing.
-use mathlib.Core.Path.{refl, sym, ◌∙◌}
-use native.Mathlib.Omega.{arith}
+use Rattle.std.proofs.lemmas.Iterator.{YieldsList-from_slice}
+use Rattle.std.proofs.lemmas.Iterator.Search.{any_from_yields_List}
+use Rattle.std.proofs.Common.{◌∙◌, sym, ap, rules, tests}
+use Rattle.meaning.specs.Lists.{any_of}
+use Rattle.meaning.proofs.StdLists.{any_of-std}
 use Rattle.rules.specs.Simplify.{strengthen_permitted}
-use Rattle.table.proofs.LoopLaws.{any_found, any-turn, any-end}
-use borrow.Author.Rules.{rules}
+use Rattle.index.proofs.ReadLaws.{studied-indexes, study-indexed, study-in}
 use Rattle.search.proofs.strengthening.any_stronger.Goals as goal
 
-pub loop-i-init : goal.loop-i-init
-loop-i-init c = (search rules, λ φ h w q at_b. refl)
-
-pub overflow_cast-among : goal.overflow_cast-among
-overflow_cast-among c = omega (arith, c.type_inv.among c.loop-i.i)
-
-pub returns-then-strengthens : goal.returns-then-strengthens
-returns-then-strengthens c =
-    λ φ h w q at_b. any_found (λ a. strengthen_permitted φ a _) 0 _ c.loop-i.i (c.loop-i.invariant.1 φ h w q at_b) c.loop-i-test.true
-    (sym (c.strengthens.ensures φ h w q at_b) ∙ c.if-strengthens.true)
-
-pub loop-i-preserved : goal.loop-i-preserved
-loop-i-preserved c = (
-  search rules,
-  λ φ h w q at_b. any-turn (λ a. strengthen_permitted φ a _) 0 _ c.loop-i.i (c.loop-i.invariant.1 φ h w q at_b) c.loop-i-test.true
-      (sym (c.strengthens.ensures φ h w q at_b) ∙ c.if-strengthens.false),
-)
+pub clauses_of-requires : goal.clauses_of-requires
+clauses_of-requires c = study-indexed (study-in c.args.at.now.studied)
 
 pub returns : goal.returns
-returns c = λ φ h w q at_b. any-end (λ a. strengthen_permitted φ a _) 0 _ c.loop-i.i (c.loop-i.invariant.1 φ h w q at_b) c.loop-i-test.false
+returns c =
+    λ φ s at_b. any_from_yields_List (λ a. strengthen_permitted φ a c.args.b) _ _ _ c.any.ensures.ran
+    (YieldsList-from_slice c.clauses_of.result.now cc) (λ a b q k. search (rules, tests))
+    ∙ sym (any_of-std _ _)
+    ∙ ap (any_of (λ a. strengthen_permitted φ a c.args.b)) (c.clauses_of.ensures φ (studied-indexes s))

@@ -1,26 +1,24 @@
--- By the signatures, then by the two numbers, then by the sizes, then by the literals.
+-- By what tells at little cost, then by the literals.
 -- Assumes nothing.
+use mathlib.Core.Path.{sym}
+use Rattle.table.proofs.HoldLaws.{held}
 use Rattle.permits.proofs.PlaceLaws.{entries-of}
 use Rattle.search.proofs.StudyLaws.{clause-rises}
-use Rattle.search.proofs.SignedLaws.{strengthen-needs, unsigned}
-use Rattle.search.proofs.StrengthenLaws.{strong-absent, strong-itself, strong-is, strong-short}
+use Rattle.search.proofs.StrengthenLaws.{strong-is}
 use Rattle.search.proofs.strengthening.is_strengthened.Goals as goal
 
-pub returns-then-c-b : goal.returns-then-c-b
-returns-then-c-b c = λ φ h w q g. strong-absent h _ _ c.requires.a_lt_clauses c.if-c-b.true
+pub wider-requires-clause-held : goal.wider-requires-clause-held
+wider-requires-clause-held c = held c.args.at.now.studied.holds
 
-pub returns-then-a-b : goal.returns-then-a-b
-returns-then-a-b c = λ φ h w q g. strong-itself h _ _ c.requires.a_lt_clauses w c.if-a-b.true
+pub returns-in-Some : goal.returns-in-Some
+returns-in-Some c =
+    λ φ s g. let h = s.holds in
+    let w = s.well in
+    let y = c.in-Some.ensures.there in
+    let f = y.2 φ h in
+    strong-is h _ _ c.requires.a_lt_clauses y.0 _ _ g.is f _
+    (c.strengthens_part.ensures φ.prefix s.ranked (entries-of φ w h.fitting) (clause-rises h w _ c.requires.a_lt_clauses _ g.is)
+    (clause-rises h w _ y.0 _ f))
 
-pub returns-then-y-x : goal.returns-then-y-x
-returns-then-y-x c = λ φ h w q g. strong-short h _ _ c.requires.a_lt_clauses c.if-c-b.false _ _ g.is (c.clause_at-y.ensures φ h) w c.if-y-x.true
-
-pub returns-then-may_be_part : goal.returns-then-may_be_part
-returns-then-may_be_part c =
-    λ φ h w q g. let f = c.clause_at-y.ensures φ h in
-    strong-is h _ _ c.requires.a_lt_clauses c.if-c-b.false _ _ g.is f _
-    (c.strengthens_part.ensures φ.prefix q (entries-of φ w h.fitting) (clause-rises h w _ c.requires.a_lt_clauses _ g.is)
-    (clause-rises h w _ c.if-c-b.false _ f))
-
-pub returns : goal.returns
-returns c = λ φ h w q g. unsigned φ _ _ g _ c.may_be_part.ensures c.if-may_be_part.false _ (strengthen-needs φ _ _)
+pub returns-in-None : goal.returns-in-None
+returns-in-None c = λ φ s g. sym (c.in-None.ensures.none φ s.holds s.well g).1

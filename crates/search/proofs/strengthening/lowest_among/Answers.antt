@@ -1,24 +1,18 @@
--- The loop's invariant: the numbers that are left, from the lowest so far on, give the lowest of all.
+-- The closure is the test of the definition.
 -- Assumes nothing.
-use mathlib.Core.Path.{refl}
-use native.Mathlib.Omega.{arith}
+use Rattle.std.proofs.lemmas.Iterator.{YieldsList-from_slice}
+use Rattle.std.proofs.lemmas.Iterator.Consumers.{YieldsList-from_filter, min_from_yields_List}
+use Rattle.std.proofs.Common.{◌∙◌, sym, ap, rules, tests}
+use Rattle.std.specs.Prelude.{min}
+use Rattle.std.specs.List.{reduce}
+use Rattle.meaning.proofs.StdLists.{keep_if-std}
 use Rattle.rules.specs.Simplify.{strengthen_permitted}
-use Rattle.search.proofs.LowestLaws.{lowest-turn, lowest-end}
-use borrow.Author.Rules.{rules}
+use Rattle.search.specs.Candidates.{lowest_of}
 use Rattle.search.proofs.strengthening.lowest_among.Goals as goal
 
-pub loop-k-init : goal.loop-k-init
-loop-k-init c = (search rules, λ φ h w q g. refl)
-
-pub overflow_cast-among : goal.overflow_cast-among
-overflow_cast-among c = omega (arith, c.type_inv.among c.loop-k.k)
-
-pub loop-k-preserved : goal.loop-k-preserved
-loop-k-preserved c = (
-  search rules,
-  λ φ h w q g. lowest-turn (strengthen_permitted φ _) _ c.loop-k.k c.loop-k.low (c.loop-k.invariant.1 φ h w q g) c.loop-k-test.true _
-      (c.lower_of-low.ensures φ h w q g),
-)
-
 pub returns : goal.returns
-returns c = λ φ h w q g. lowest-end (strengthen_permitted φ _) _ c.loop-k.k c.loop-k.low (c.loop-k.invariant.1 φ h w q g) c.loop-k-test.false
+unfolding lowest_of
+returns c =
+    λ φ s g. let e = min_from_yields_List _ _ c.min.ensures.ran
+    (YieldsList-from_filter _ (strengthen_permitted φ c.args.a) (YieldsList-from_slice c.args.among.now cc) c.filter.ensures.closure (λ x r d k. search (rules, tests))) in
+    c.copied.ensures ∙ e ∙ ap (reduce min) (sym (keep_if-std _ _))

@@ -1,22 +1,24 @@
--- By the two numbers, then by the sizes, then by the literals.
+-- By what tells at little cost, then by the literals.
 -- Assumes nothing.
+use mathlib.Core.Path.{sym}
+use Rattle.table.proofs.HoldLaws.{held}
 use Rattle.permits.proofs.PlaceLaws.{entries-of}
 use Rattle.search.proofs.StudyLaws.{clause-rises}
-use Rattle.search.proofs.StrengthenLaws.{strong-no-a, strong-itself, strong-is, strong-short}
+use Rattle.search.proofs.StrengthenLaws.{strong-is}
 use Rattle.search.proofs.strengthening.strengthens.Goals as goal
 
-pub returns-then-c-a : goal.returns-then-c-a
-returns-then-c-a c = λ φ h w q at_b. strong-no-a h _ _ c.if-c-a.true
+pub narrower-requires-clause-held : goal.narrower-requires-clause-held
+narrower-requires-clause-held c = held c.args.at.now.studied.holds
 
-pub returns-then-a-b : goal.returns-then-a-b
-returns-then-a-b c = λ φ h w q at_b. strong-itself h _ _ c.if-c-a.false w c.if-a-b.true
-
-pub returns-then-y-x : goal.returns-then-y-x
-returns-then-y-x c = λ φ h w q at_b. strong-short h _ _ c.if-c-a.false c.requires.b_lt_clauses _ _ (c.clause_at-x.ensures φ h) at_b w c.if-y-x.true
-
-pub returns : goal.returns
-returns c =
-    λ φ h w q at_b. let at_a = c.clause_at-x.ensures φ h in
-    strong-is h _ _ c.if-c-a.false c.requires.b_lt_clauses _ _ at_a at_b _
-    (c.strengthens_part.ensures φ.prefix q (entries-of φ w h.fitting) (clause-rises h w _ c.if-c-a.false _ at_a)
+pub returns-in-Some : goal.returns-in-Some
+returns-in-Some c =
+    λ φ s at_b. let h = s.holds in
+    let w = s.well in
+    let x = c.in-Some.ensures.there in
+    let at_a = x.2 φ h in
+    strong-is h _ _ x.0 c.requires.b_lt_clauses _ _ at_a at_b _
+    (c.strengthens_part.ensures φ.prefix s.ranked (entries-of φ w h.fitting) (clause-rises h w _ x.0 _ at_a)
     (clause-rises h w _ c.requires.b_lt_clauses _ at_b))
+
+pub returns-in-None : goal.returns-in-None
+returns-in-None c = λ φ s at_b. sym (c.in-None.ensures.none φ s.holds s.well at_b).1

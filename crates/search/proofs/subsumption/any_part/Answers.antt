@@ -1,29 +1,17 @@
--- The loop's invariant: the numbers that are left decide.
+-- The closure is the test of the definition.
 -- Assumes nothing.
-use mathlib.Core.Path.{refl, sym, ◌∙◌}
-use native.Mathlib.Omega.{arith}
+use Rattle.std.proofs.lemmas.Iterator.{YieldsList-from_slice}
+use Rattle.std.proofs.lemmas.Iterator.Search.{any_from_yields_List}
+use Rattle.std.proofs.Common.{◌∙◌, sym, ap, rules, tests}
+use Rattle.meaning.specs.Lists.{any_of}
+use Rattle.meaning.proofs.StdLists.{any_of-std}
 use Rattle.rules.specs.Simplify.{subsume_permitted}
-use Rattle.table.proofs.LoopLaws.{any_found, any-turn, any-end}
-use borrow.Author.Rules.{rules}
 use Rattle.search.proofs.subsumption.any_part.Goals as goal
 
-pub loop-k-init : goal.loop-k-init
-loop-k-init c = (search rules, λ φ h w at_b. refl)
-
-pub overflow_cast-among : goal.overflow_cast-among
-overflow_cast-among c = omega (arith, c.type_inv.among c.loop-k.k)
-
-pub returns-then-subsumes : goal.returns-then-subsumes
-returns-then-subsumes c =
-    λ φ h w at_b. any_found (λ a. subsume_permitted φ a _) 0 _ c.loop-k.k (c.loop-k.invariant.1 φ h w at_b) c.loop-k-test.true
-    (sym (c.subsumes.ensures φ h w at_b) ∙ c.if-subsumes.true)
-
-pub loop-k-preserved : goal.loop-k-preserved
-loop-k-preserved c = (
-  search rules,
-  λ φ h w at_b. any-turn (λ a. subsume_permitted φ a _) 0 _ c.loop-k.k (c.loop-k.invariant.1 φ h w at_b) c.loop-k-test.true
-      (sym (c.subsumes.ensures φ h w at_b) ∙ c.if-subsumes.false),
-)
-
 pub returns : goal.returns
-returns c = λ φ h w at_b. any-end (λ a. subsume_permitted φ a _) 0 _ c.loop-k.k (c.loop-k.invariant.1 φ h w at_b) c.loop-k-test.false
+returns c =
+    λ φ h x at_b. let w = x.well in
+    any_from_yields_List (λ a. subsume_permitted φ a c.args.b) _ _ _ c.any.ensures.ran
+    (YieldsList-from_slice c.clauses_with.result.now cc) (λ a b q k. search (rules, tests))
+    ∙ sym (any_of-std _ _)
+    ∙ ap (any_of (λ a. subsume_permitted φ a c.args.b)) (c.clauses_with.ensures φ x)

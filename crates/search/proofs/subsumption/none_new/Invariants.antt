@@ -1,6 +1,5 @@
 -- The loop's invariant: where the first clauses are searched, no pair of clauses before b is permitted.
 -- Assumes nothing.
-use Prim.Native.Nat.{◌-◌}
 use mathlib.Core.Path.{◌≡◌}
 use mathlib.Core.Bool.{false}
 use Rattle.meaning.specs.Formula.{Formula}
@@ -14,6 +13,3 @@ use Rattle.search.proofs.subsumption.none_new.Given as goal
 
 abbrev pub invariant-loop-b : goal.invariant-loop-b
 invariant-loop-b l = (φ : Formula) → Holds φ l.t l.c → Indexes φ l.index → empty_clause φ.clauses ≡ false → SearchedTo φ l.searched → Calm (subsume_permitted φ) l.b
-
-abbrev pub decreases-loop-b : goal.decreases-loop-b
-decreases-loop-b l = l.c.clauses - l.b

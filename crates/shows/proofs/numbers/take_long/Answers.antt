@@ -1,7 +1,7 @@
--- Four and four bytes.
+-- Eight bytes.
 -- Assumes nothing.
 use Rattle.shows.proofs.NumberLaws.{long_of}
 use Rattle.shows.proofs.numbers.take_long.Goals as goal
 
 pub returns : goal.returns
-returns c = long_of _ _ _ _ _ c.take_word.ensures c.take_word-2.ensures c.long.ensures
+returns c = long_of c.args.b.now c.args.at _ c.from_le_bytes.ensures

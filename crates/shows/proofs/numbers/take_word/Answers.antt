@@ -1,7 +1,7 @@
--- Two and two bytes.
+-- Four bytes.
 -- Assumes nothing.
 use Rattle.shows.proofs.NumberLaws.{word_of}
 use Rattle.shows.proofs.numbers.take_word.Goals as goal
 
 pub returns : goal.returns
-returns c = word_of _ _ _ _ _ c.pair.ensures c.pair-2.ensures c.word.ensures
+returns c = word_of c.args.b.now c.args.at _ c.from_le_bytes.ensures

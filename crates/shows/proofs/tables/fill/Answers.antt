@@ -7,6 +7,3 @@ use Rattle.shows.proofs.tables.fill.Goals as goal
 
 pub loop-i-preserved : goal.loop-i-preserved
 loop-i-preserved c = (c.loop-i.invariant.0, simp length-set c.loop-i.invariant.1, entry_more _ c.loop-i.t _ c.loop-i.i _ (omega arith) c.loop-i.invariant.2 c.entry_of.ensures)
-
-pub returns : goal.returns
-returns c = λ k h. c.loop-i.invariant.2 k (omega (arith, h, c.loop-i-test.false))

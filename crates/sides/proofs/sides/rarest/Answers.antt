@@ -1,15 +1,14 @@
--- The loop's invariant: the best so far and the literals that are left decide.
+-- The fold of the rarer of two.
 -- Assumes nothing.
-use mathlib.Core.Path.{refl, sym, ◌∙◌}
-use native.Mathlib.Omega.{arith}
-use Rattle.sides.proofs.SideLaws.{rarest-turn, rarest-end}
+use Rattle.std.proofs.Common.{◌∙◌, drop, arith, length-drop, rules}
+use Rattle.std.proofs.lemmas.List.{take_all}
+use Rattle.std.proofs.lemmas.Iterator.{YieldsList-from_slice}
+use Rattle.std.proofs.lemmas.Iterator.Consumers.{fold_from_yields_List}
+use Rattle.sides.specs.Sides.{rarer}
+use Rattle.sides.proofs.SideLaws.{rarest_fold}
 use Rattle.sides.proofs.sides.rarest.Goals as goal
 
-pub loop-i-init : goal.loop-i-init
-loop-i-init c = (omega arith, omega arith, λ φ h. refl)
-
-pub loop-i-preserved : goal.loop-i-preserved
-loop-i-preserved c = (omega arith, omega arith, λ φ h. sym (rarest-turn φ.clauses _ _ c.loop-i.i (omega arith) _ (c.rarer-best.ensures φ h)) ∙ c.loop-i.invariant.2 φ h)
-
 pub returns : goal.returns
-returns c = λ φ h. sym (rarest-end φ.clauses _ _ c.loop-i.i (omega arith)) ∙ c.loop-i.invariant.2 φ h
+returns c = λ φ h.
+    fold_from_yields_List _ (rarer φ.clauses) _ _ c.fold.ensures.ran (YieldsList-from_slice (drop 1 c.args.clause.now) (c.iter-others.ensures.rest ∙ take_all _ _ (omega (arith, length-drop 1 c.args.clause.now)))) (λ s x b q k. search rules)
+    ∙ rarest_fold φ.clauses _ _

@@ -1,16 +1,14 @@
--- By what is said of the tables.
--- Assumes nothing.
 use Rattle.judging.specs.Check.{asked_number}
 use Rattle.standing.proofs.asking.literals_number.Goals as goal
 
-pub returns-in-Given : goal.returns-in-Given
+pub returns-in-Ok : goal.returns-in-Ok
 unfolding asked_number
-returns-in-Given c = rw (← c.literals_answer.ensures, c.in-Given.is)
+returns-in-Ok c = rw (← c.literals_answer.ensures, c.in-Ok.is)
 
-pub returns-in-WrongLength : goal.returns-in-WrongLength
+pub returns-in-Err-WrongLength : goal.returns-in-Err-WrongLength
 unfolding asked_number
-returns-in-WrongLength c = rw (← c.literals_answer.ensures, c.in-WrongLength.is)
+returns-in-Err-WrongLength c = rw (← c.literals_answer.ensures, c.in-Err-WrongLength.is, c.in-Err-WrongLength.field-0-is)
 
-pub returns-in-Malformed : goal.returns-in-Malformed
+pub returns-in-Err-Malformed : goal.returns-in-Err-Malformed
 unfolding asked_number
-returns-in-Malformed c = rw (← c.literals_answer.ensures, c.in-Malformed.is)
+returns-in-Err-Malformed c = rw (← c.literals_answer.ensures, c.in-Err-Malformed.is, c.in-Err-Malformed.field-0-is)

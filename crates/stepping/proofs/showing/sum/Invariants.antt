@@ -1,11 +1,7 @@
--- Both sums stay below 65,521.
+-- Both parts of the sum stay below the modulus.
 -- Assumes nothing.
-use Prim.Native.Nat.{◌<◌, ◌-◌}
-use lib.ListN.{length}
+use Prim.Native.Nat.{◌<◌}
 use Rattle.stepping.proofs.showing.sum.Given as goal
 
-abbrev pub invariant-loop-i : goal.invariant-loop-i
-invariant-loop-i l = (l.a < 65521) × (l.b < 65521)
-
-abbrev pub decreases-loop-i : goal.decreases-loop-i
-decreases-loop-i l = length l.text - l.i
+abbrev pub invariant-loop-x : goal.invariant-loop-x
+invariant-loop-x l = (l.a < 65521) × (l.b < 65521)

@@ -5,10 +5,6 @@ use Rattle.permits.specs.Calls.{called}
 use Rattle.steps.specs.Decide.{call_permitted}
 use Rattle.steps.proofs.deciding.is_permitted.Goals as goal
 
-pub returns-in-Bad : goal.returns-in-Bad
-unfolding called call_permitted
-returns-in-Bad c = λ φ g. rw c.in-Bad.is
-
 pub returns-in-Unit : goal.returns-in-Unit
 unfolding called call_permitted permitted
 returns-in-Unit c = λ φ g. rw c.in-Unit.is (c.unit_permitted.ensures φ g.holds)

@@ -1,6 +1,6 @@
 -- One recipe.
 -- Assumes nothing.
-use Rattle.rebuilds.proofs.GivenLaws.{begun-held, begun-ranks, begun-well}
+use Rattle.rebuilds.proofs.GivenLaws.{begun-held, begun-well}
 use Rattle.recipes.proofs.TurnLaws.{about-flip}
 use Rattle.steps.proofs.MadeLaws.{assigned}
 use mathlib.Core.Path.{refl}
@@ -14,9 +14,6 @@ rebuild-requires-clause-c_value c = (begun-well c.requires, (about-flip _ _ _ c.
 
 pub rebuild-requires-clause-target_value : goal.rebuild-requires-clause-target_value
 rebuild-requires-clause-target_value c = c.requires.empty
-
-pub rebuild-requires-clause-scratch_len : goal.rebuild-requires-clause-scratch_len
-rebuild-requires-clause-scratch_len c = (c.requires.room, begun-ranks c.requires)
 
 pub returns : goal.returns
 returns c = λ φ g. assigned g _ _ _ refl c.flip.ensures (c.rebuild.ensures.built φ g.holds)

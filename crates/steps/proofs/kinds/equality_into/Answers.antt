@@ -2,16 +2,13 @@
 -- Assumes nothing.
 use mathlib.Core.Path.{refl}
 use Rattle.rules.specs.Step.{permitted}
-use Rattle.rebuilds.proofs.GivenLaws.{begun-held, begun-ranks, begun-well}
+use Rattle.rebuilds.proofs.GivenLaws.{begun-held, begun-well}
 use Rattle.recipes.proofs.TurnLaws.{about-old}
 use Rattle.steps.proofs.MadeLaws.{equality-made}
 use Rattle.steps.proofs.kinds.equality_into.Goals as goal
 
-pub replacement_of-swap-requires-clause-held : goal.replacement_of-swap-requires-clause-held
-replacement_of-swap-requires-clause-held c = begun-held c.requires
-
-pub replacement_of-swap-requires-clause-ranks_len : goal.replacement_of-swap-requires-clause-ranks_len
-replacement_of-swap-requires-clause-ranks_len c = begun-ranks c.requires
+pub replacement_of-swap-requires : goal.replacement_of-swap-requires
+replacement_of-swap-requires c = record { held = begun-held c.requires }
 
 pub rebuild-requires-clause-held : goal.rebuild-requires-clause-held
 rebuild-requires-clause-held c = begun-held c.requires
@@ -21,9 +18,6 @@ rebuild-requires-clause-c_value c = (begun-well c.requires, (about-old _ _ _ ref
 
 pub rebuild-requires-clause-target_value : goal.rebuild-requires-clause-target_value
 rebuild-requires-clause-target_value c = c.requires.empty
-
-pub rebuild-requires-clause-scratch_len : goal.rebuild-requires-clause-scratch_len
-rebuild-requires-clause-scratch_len c = (c.requires.room, begun-ranks c.requires)
 
 pub returns : goal.returns
 unfolding permitted

@@ -1,15 +1,12 @@
 -- The pure literal becomes true.
 -- Assumes nothing.
 use Rattle.rules.specs.Step.{permitted}
-use Rattle.rebuilds.proofs.GivenLaws.{begun-held, begun-ranks}
+use Rattle.rebuilds.proofs.GivenLaws.{begun-held}
 use Rattle.steps.proofs.MadeLaws.{pure-made}
 use Rattle.steps.proofs.kinds.pure_into.Goals as goal
 
-pub pure_literal-literal-requires-clause-held : goal.pure_literal-literal-requires-clause-held
-pure_literal-literal-requires-clause-held c = begun-held c.requires
-
-pub pure_literal-literal-requires-clause-ranks_len : goal.pure_literal-literal-requires-clause-ranks_len
-pure_literal-literal-requires-clause-ranks_len c = begun-ranks c.requires
+pub pure_literal-literal-requires : goal.pure_literal-literal-requires
+pure_literal-literal-requires c = record { held = begun-held c.requires }
 
 pub returns : goal.returns
 unfolding permitted

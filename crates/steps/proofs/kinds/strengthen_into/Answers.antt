@@ -1,16 +1,13 @@
 -- One recipe; where the step is permitted there is a literal.
 -- Assumes nothing.
-use Rattle.rebuilds.proofs.GivenLaws.{begun-held, begun-ranks, begun-well}
+use Rattle.rebuilds.proofs.GivenLaws.{begun-held, begun-well}
 use Rattle.steps.proofs.MadeLaws.{strengthen-made, strengthen-never}
 use mathlib.Core.Path.{refl}
 use Rattle.recipes.specs.Left.{about}
 use Rattle.steps.proofs.kinds.strengthen_into.Goals as goal
 
-pub strengthening_of-requires-clause-held : goal.strengthening_of-requires-clause-held
-strengthening_of-requires-clause-held c = begun-held c.requires
-
-pub strengthening_of-requires-clause-ranks_len : goal.strengthening_of-requires-clause-ranks_len
-strengthening_of-requires-clause-ranks_len c = begun-ranks c.requires
+pub strengthening_of-requires : goal.strengthening_of-requires
+strengthening_of-requires c = record { held = begun-held c.requires }
 
 pub rebuild-requires-clause-held : goal.rebuild-requires-clause-held
 rebuild-requires-clause-held c = begun-held c.requires
@@ -21,11 +18,8 @@ rebuild-requires-clause-c_value c = (begun-well c.requires, (unfold about in ref
 pub rebuild-requires-clause-target_value : goal.rebuild-requires-clause-target_value
 rebuild-requires-clause-target_value c = c.requires.empty
 
-pub rebuild-requires-clause-scratch_len : goal.rebuild-requires-clause-scratch_len
-rebuild-requires-clause-scratch_len c = (c.requires.room, begun-ranks c.requires)
+pub returns : goal.returns
+returns c = λ φ g p. strengthen-made φ _ _ p _ (c.strengthening_of.ensures φ g.holds g.well g.ranked) g _ _ c.in_ok-l.was c.flip.ensures (c.rebuild.ensures.built φ g.holds)
 
-pub returns-in-By : goal.returns-in-By
-returns-in-By c = λ φ g p. strengthen-made φ _ _ p _ (c.strengthening_of.ensures φ g.holds g.well g.ranked) g _ _ c.in-By.is c.flip.ensures (c.rebuild.ensures.built φ g.holds)
-
-pub returns-in-No : goal.returns-in-No
-returns-in-No c = λ φ g p. strengthen-never φ _ _ p _ (c.strengthening_of.ensures φ g.holds g.well g.ranked) c.in-No.is
+pub returns-in_err-l : goal.returns-in_err-l
+returns-in_err-l c = λ φ g p. strengthen-never φ _ _ p _ (c.strengthening_of.ensures φ g.holds g.well g.ranked) c.in_err-l.was

@@ -1,6 +1,6 @@
 -- One recipe.
 -- Assumes nothing.
-use Rattle.rebuilds.proofs.GivenLaws.{begun-held, begun-ranks, begun-well}
+use Rattle.rebuilds.proofs.GivenLaws.{begun-held, begun-well}
 use Rattle.steps.proofs.MadeLaws.{subsume-made}
 use mathlib.Core.Path.{refl}
 use Rattle.recipes.specs.Left.{about}
@@ -14,9 +14,6 @@ rebuild-requires-clause-c_value c = (begun-well c.requires, (unfold about in ref
 
 pub rebuild-requires-clause-target_value : goal.rebuild-requires-clause-target_value
 rebuild-requires-clause-target_value c = c.requires.empty
-
-pub rebuild-requires-clause-scratch_len : goal.rebuild-requires-clause-scratch_len
-rebuild-requires-clause-scratch_len c = (c.requires.room, begun-ranks c.requires)
 
 pub returns : goal.returns
 returns c = λ φ g. subsume-made g _ _ (c.rebuild.ensures.built φ g.holds)

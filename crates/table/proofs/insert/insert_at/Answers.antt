@@ -1,5 +1,6 @@
 -- The loop's invariant: the numbers from j on are shifted. Then the place is stored to.
 -- Assumes nothing.
+use Prim.Native.Nat.{◌+◌, ◌-◌}
 use mathlib.Core.Path.{◌≡◌, refl}
 use native.Mathlib.Omega.{arith}
 use lib.ListN.{length-set}
@@ -14,7 +15,8 @@ loop-j-preserved c = (
   omega arith,
   omega arith,
   simp length-set c.loop-j.invariant.2,
-  shift-turn _ _ c.args.p _ _ c.loop-j.invariant.3 (omega arith) (omega arith) (omega arith),
+  let j : c.loop-j.j - 1 + 1 ≡ c.loop-j.j = omega arith in
+      rw j (shift-turn _ _ c.args.p _ _ c.loop-j.invariant.3 (omega arith) (omega arith) (omega arith)),
 )
 
 pub returns : goal.returns

@@ -8,6 +8,3 @@ use Rattle.table.proofs.insert.insert_at.Given as goal
 
 abbrev pub invariant-loop-j : goal.invariant-loop-j
 invariant-loop-j l = (l.p ≤ l.j) × (l.j ≤ l.m) × (length l.s ≡ length l.initial.s) × (l.s ≡ shifted l.initial.s l.j l.m)
-
-abbrev pub decreases-loop-j : goal.decreases-loop-j
-decreases-loop-j l = l.j

@@ -1,17 +1,11 @@
--- The loop's invariant: the place is from low to high.
+-- The list rises, so the numbers below x are its first ones.
 -- Assumes nothing.
-use native.Mathlib.Omega.{arith}
-use Rattle.table.proofs.RisingLaws.{between-all, between-up, between-down, between-end}
+use Rattle.std.proofs.Common.{ltb, rules, tests}
+use Rattle.std.proofs.lemmas.List.Sorted.{IsPartitionPoint-from_clause}
+use Rattle.table.proofs.RisingLaws.{rising-parted, count-parted}
 use Rattle.table.proofs.insert.place_in.Goals as goal
 
-pub loop-low-init : goal.loop-low-init
-loop-low-init c = between-all _ _
-
-pub loop-low-preserved-then-s-mid : goal.loop-low-preserved-then-s-mid
-loop-low-preserved-then-s-mid c = between-up _ _ _ _ c.loop-low.invariant c.requires _ (omega arith) (omega arith) c.if-s-mid.true
-
-pub loop-low-preserved : goal.loop-low-preserved
-loop-low-preserved c = between-down _ _ _ _ c.loop-low.invariant c.requires _ (omega arith) (omega arith) c.if-s-mid.false
-
 pub returns : goal.returns
-returns c = between-end _ _ _ _ c.loop-low.invariant c.loop-low-test.false
+returns c =
+    count-parted c.args.s.now c.args.x _ c.partition_point.ensures.bound
+    (IsPartitionPoint-from_clause (λ y. ltb y c.args.x) _ _ c.partition_point.ensures.partitioned (rising-parted _ _ c.requires) (λ a r q k. search (rules, tests)))

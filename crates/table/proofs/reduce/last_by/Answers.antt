@@ -5,14 +5,14 @@ use native.Mathlib.Omega.{arith}
 use Rattle.table.proofs.StayLaws.{small_at, last_turn, last_end}
 use Rattle.table.proofs.reduce.last_by.Goals as goal
 
-pub loop-i-init : goal.loop-i-init
-loop-i-init c = (omega arith, refl)
+pub loop-literal-init : goal.loop-literal-init
+loop-literal-init c = refl
 
 pub later-last-requires : goal.later-last-requires
-later-last-requires c = (c.requires.0, small_at _ c.loop-i.i c.requires.1 (omega arith))
+later-last-requires c = small_at _ c.loop-literal.literal-index c.requires (omega arith)
 
-pub loop-i-preserved : goal.loop-i-preserved
-loop-i-preserved c = (omega arith, last_turn _ _ _ c.loop-i.i _ c.loop-i.invariant.1 (omega arith) c.later-last.ensures)
+pub loop-literal-preserved : goal.loop-literal-preserved
+loop-literal-preserved c = last_turn _ _ _ c.loop-literal.literal-index _ _ c.loop-literal.invariant (omega arith) c.later-last.ensures
 
 pub returns : goal.returns
-returns c = last_end _ _ _ c.loop-i.i c.loop-i.invariant.1 (omega arith)
+returns c = last_end _ _ _ c.loop-literal.literal-index _ c.loop-literal.invariant (omega arith)

@@ -1,13 +1,9 @@
 -- The loop's invariant: the place so far and what is left make the whole.
 -- Assumes nothing.
-use Prim.Native.Nat.{◌≤◌, ◌-◌}
 use mathlib.Core.Path.{◌≡◌}
-use lib.ListN.{length, drop}
+use lib.ListN.{drop}
 use Rattle.table.specs.Ranks.{last_by}
 use Rattle.table.proofs.reduce.last_by.Given as goal
 
-abbrev pub invariant-loop-i : goal.invariant-loop-i
-invariant-loop-i l = (l.i ≤ length l.clause) × (last_by l.ranks l.last (drop l.i l.clause) ≡ last_by l.ranks 0 l.clause)
-
-abbrev pub decreases-loop-i : goal.decreases-loop-i
-decreases-loop-i l = length l.clause - l.i
+abbrev pub invariant-loop-literal : goal.invariant-loop-literal
+invariant-loop-literal l = last_by l.ranks l.last (drop l.literal-index l.clause) ≡ last_by l.ranks l.fn.first l.clause

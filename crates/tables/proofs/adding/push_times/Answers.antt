@@ -1,11 +1,10 @@
 -- The loop's invariant: the table holds a formula.
 -- Assumes nothing.
-use native.Mathlib.Omega.{arith}
 use Rattle.table.proofs.ReadyLaws.{held-done, held-full}
 use Rattle.tables.proofs.adding.push_times.Goals as goal
 
-pub loop-i-preserved : goal.loop-i-preserved
-loop-i-preserved g c = (omega arith, held-done c.loop-i.invariant.1 _ _ _ _ (c.push_clause.ensures c.loop-i.invariant.1.formula c.loop-i.invariant.1.holds) _ c.in-Done.is)
+pub loop-preserved : goal.loop-preserved
+loop-preserved g c = held-done c.loop.invariant _ _ _ _ (c.push_clause.ensures c.loop.invariant.formula c.loop.invariant.holds) _ c.in-Some.is
 
-pub returns-in-Full-clause-ok : goal.returns-in-Full-clause-ok
-returns-in-Full-clause-ok g c = held-full c.loop-i.invariant.1 _ _ _ _ (c.push_clause.ensures c.loop-i.invariant.1.formula c.loop-i.invariant.1.holds) c.in-Full.is
+pub returns-in-None-clause-ok : goal.returns-in-None-clause-ok
+returns-in-None-clause-ok g c = held-full c.loop.invariant _ _ _ _ (c.push_clause.ensures c.loop.invariant.formula c.loop.invariant.holds) c.in-None.is

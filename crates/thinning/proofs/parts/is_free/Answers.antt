@@ -1,23 +1,17 @@
--- The loop's invariant: the literals that are left decide.
+-- A chain over the literals.
 -- Assumes nothing.
-use mathlib.Core.Path.{refl, sym, ◌∙◌}
-use native.Mathlib.Omega.{arith}
-use Rattle.table.proofs.LoopLaws.{all-fails, all-turn, all_end}
-use Rattle.table.proofs.StayLaws.{small_at}
+use Rattle.std.proofs.Common.{◌∙◌, sym, rules, tests}
+use Prim.Native.Nat.{◌<◌}
+use Rattle.thinning.proofs.ReadLaws.{small_item}
+use Rattle.std.proofs.lemmas.Iterator.Adapters.{serves_from_places}
+use Rattle.std.proofs.lemmas.Iterator.{YieldsList-from_slice}
+use Rattle.std.proofs.lemmas.Iterator.Search.{all_from_yields_List}
+use Rattle.meaning.proofs.StdLists.{all_of-std}
 use Rattle.thinning.specs.Others.{safe}
 use Rattle.thinning.proofs.parts.is_free.Goals as goal
 
-pub loop-i-init : goal.loop-i-init
-loop-i-init c = (omega arith, refl)
-
-pub is_safe-requires : goal.is_safe-requires
-is_safe-requires c = (c.requires.0, c.requires.1, small_at _ c.loop-i.i c.requires.2 c.loop-i-test.true)
-
-pub loop-i-preserved : goal.loop-i-preserved
-loop-i-preserved c = (omega arith, all-turn (safe _ _ _) 0 _ c.loop-i.i c.loop-i.invariant.1 (omega arith) (sym c.is_safe.ensures ∙ c.if-is_safe.true))
-
-pub returns-else-is_safe : goal.returns-else-is_safe
-returns-else-is_safe c = all-fails (safe _ _ _) 0 _ c.loop-i.i c.loop-i.invariant.1 (omega arith) (sym c.is_safe.ensures ∙ c.if-is_safe.false)
+pub all-requires : goal.all-requires
+all-requires c = record { can = tt; finite = tt; callable = serves_from_places (YieldsList-from_slice c.args.clause.now cc) (λ x q k. search (rules, tests)) (λ x k n e. let h : x.now < 2048 = small_item _ k _ c.requires n e in search rules) }
 
 pub returns : goal.returns
-returns c = all_end (safe _ _ _) 0 _ c.loop-i.i c.loop-i.invariant.1 (omega arith)
+returns c = all_from_yields_List (safe c.args.ranks.now c.args.last c.args.met.now) _ _ _ c.all.ensures.ran (YieldsList-from_slice c.args.clause.now cc) (λ x b q k. search (rules, tests)) ∙ sym (all_of-std _ _)

@@ -6,14 +6,10 @@ use Rattle.table.proofs.HoldLaws.{count-clauses}
 use Rattle.thinning.proofs.ReadLaws.{few, read_small}
 use Rattle.thinning.proofs.OtherLaws.{met_all}
 use Rattle.thinning.proofs.GoingLaws.{thinned}
-use Rattle.thinning.proofs.PickLaws.{all-thinned}
 use Rattle.thinning.proofs.sides.thin.Goals as goal
-
-pub returns-then-few_with : goal.returns-then-few_with
-returns-then-few_with c = λ φ h. all-thinned _ _ _ _ φ.clauses _ (c.flag_with.ensures φ h)
 
 pub returns : goal.returns
 returns c =
     λ φ h. thinned _ _ _ _ φ.clauses (few h) _ _
-    (c.flag_some.ensures φ c.args.other h (met_all _ _ _ φ.clauses _ _ refl (read_small (record { held = c.requires.held; well = c.requires.c_value }) h) (c.flag_met.ensures φ h)))
+    (c.flag_some.ensures φ c.args.other h (met_all _ _ _ φ.clauses _ _ refl (read_small (record { held = c.requires.held; well = c.requires.well }) h) (c.flag_met.ensures φ h)))
     (omega (arith, count-clauses h))

@@ -1,16 +1,14 @@
 -- In the formula, or one of the resolvents before.
 -- Assumes nothing.
-use Rattle.sides.proofs.FileLaws.{filed-of, file-of}
+use mathlib.Core.Path.{◌∙◌}
+use Rattle.sides.proofs.FileLaws.{filed-of}
 use Rattle.weigh.proofs.ResolvResult.{there-first, there-later}
 use Rattle.weigh.proofs.pairing.is_there.Goals as goal
 
-pub is_clause-requires : goal.is_clause-requires
-is_clause-requires c = file-of c.requires.study
-
 pub returns-then-is_clause : goal.returns-then-is_clause
-returns-then-is_clause c = λ φ g out. there-first φ g.well c.args.a c.args.p.number _ out _ (c.is_clause.ensures φ (filed-of g)) c.if-is_clause.true
+returns-then-is_clause c = λ φ g out. c.if-is_clause.true ∙ there-first φ g.well c.args.a c.args.p.number _ out _ (c.is_clause.ensures φ (filed-of g)) c.if-is_clause.true
 
-pub returns : goal.returns
-returns c =
+pub returns-else-is_clause : goal.returns-else-is_clause
+returns-else-is_clause c =
     λ φ g out. there-later φ g.well c.args.a c.args.p.number _ out _ (c.is_clause.ensures φ (filed-of g)) c.if-is_clause.false _
     (c.is_earlier.ensures φ g)

@@ -1,25 +1,18 @@
 -- No existential, or what is left is too heavy already, or not permitted; else counted pair by pair.
 -- Assumes nothing.
+use Rattle.index.proofs.ReadLaws.{study-in}
 use Rattle.permits.proofs.PlaceLaws.{entries-of}
-use Rattle.sides.proofs.FileLaws.{filed-of, file-of, study-ranks}
+use Rattle.sides.proofs.FileLaws.{filed-of}
 use Rattle.weigh.proofs.ResolvWeigh.{weighed-whole, bounded-sums}
 use Rattle.weigh.proofs.ResolvStart.{some-variables, existing-there, existing-small, rest-small, step_other, step-floor, step-none, step-some}
 use native.Mathlib.Omega.{arith}
 use Rattle.weigh.proofs.resolving.weigh_resolve.Goals as goal
 
-pub is_existential-requires : goal.is_existential-requires
-is_existential-requires c = study-ranks c.requires.study
-
-pub counts_left-d-requires-clause-file : goal.counts_left-d-requires-clause-file
-counts_left-d-requires-clause-file c =
-    let is = c.is_existential.ensures c.requires.study.formula.prefix c.requires.study.studied.ranked (entries-of c.requires.study.formula c.requires.study.studied.well c.requires.study.studied.holds.fitting) in
-    file-of c.requires.study
-
-pub counts_left-d-requires-clause-a_bound : goal.counts_left-d-requires-clause-a_bound
-counts_left-d-requires-clause-a_bound c =
-    let is = c.is_existential.ensures c.requires.study.formula.prefix c.requires.study.studied.ranked (entries-of c.requires.study.formula c.requires.study.studied.well c.requires.study.studied.holds.fitting) in (
-      existing-small c.requires.study.studied c.args.a _ is c.if-is_existential.true,
-      some-variables (filed-of c.requires.study.studied) c.args.a (existing-there c.requires.study.studied c.args.a _ is c.if-is_existential.true),
+pub counts_left-d-requires : goal.counts_left-d-requires
+counts_left-d-requires c =
+    let is = c.is_existential.ensures (study-in c.args.at.now.studied).formula.prefix (study-in c.args.at.now.studied).studied.ranked (entries-of (study-in c.args.at.now.studied).formula (study-in c.args.at.now.studied).studied.well (study-in c.args.at.now.studied).studied.holds.fitting) in (
+      existing-small (study-in c.args.at.now.studied).studied c.args.a _ is c.if-is_existential.true,
+      some-variables (filed-of (study-in c.args.at.now.studied).studied) c.args.a (existing-there (study-in c.args.at.now.studied).studied c.args.a _ is c.if-is_existential.true),
     )
 
 pub weight_of-requires : goal.weight_of-requires
@@ -29,22 +22,12 @@ pub returns-then-below-weight_of : goal.returns-then-below-weight_of
 returns-then-below-weight_of c =
     λ φ g. let is = c.is_existential.ensures φ.prefix g.ranked (entries-of φ g.well g.holds.fitting) in
     step-floor φ g.well c.args.a _ _
-    (c.weight_of.ensures _ (c.counts_left-d.ensures.value φ (filed-of g) (existing-there g c.args.a _ is c.if-is_existential.true))) c.if-below-weight_of.true
+    (c.weight_of.ensures.weighed _ (c.counts_left-d.ensures.value φ (filed-of g) (existing-there g c.args.a _ is c.if-is_existential.true))) c.if-below-weight_of.true
 
-pub count_pairs-e-requires-clause-study : goal.count_pairs-e-requires-clause-study
-count_pairs-e-requires-clause-study c =
-    let is = c.is_existential.ensures c.requires.study.formula.prefix c.requires.study.studied.ranked (entries-of c.requires.study.formula c.requires.study.studied.well c.requires.study.studied.holds.fitting) in
-    c.requires.study
-
-pub count_pairs-e-requires-clause-scratch_len : goal.count_pairs-e-requires-clause-scratch_len
-count_pairs-e-requires-clause-scratch_len c =
-    let is = c.is_existential.ensures c.requires.study.formula.prefix c.requires.study.studied.ranked (entries-of c.requires.study.formula c.requires.study.studied.well c.requires.study.studied.holds.fitting) in
-    (c.requires.scratch_len.0, c.requires.scratch_len.1, existing-small c.requires.study.studied c.args.a _ is c.if-is_existential.true)
-
-pub count_pairs-e-requires-clause-bounded : goal.count_pairs-e-requires-clause-bounded
-count_pairs-e-requires-clause-bounded c =
-    let is = c.is_existential.ensures c.requires.study.formula.prefix c.requires.study.studied.ranked (entries-of c.requires.study.formula c.requires.study.studied.well c.requires.study.studied.holds.fitting) in
-    c.counts_left-d.ensures.bounded
+pub count_pairs-e-requires-clause-a_bound : goal.count_pairs-e-requires-clause-a_bound
+count_pairs-e-requires-clause-a_bound c =
+    let is = c.is_existential.ensures (study-in c.args.at.now.studied).formula.prefix (study-in c.args.at.now.studied).studied.ranked (entries-of (study-in c.args.at.now.studied).formula (study-in c.args.at.now.studied).studied.well (study-in c.args.at.now.studied).studied.holds.fitting) in
+    existing-small (study-in c.args.at.now.studied).studied c.args.a _ is c.if-is_existential.true
 
 pub weigh_counts-requires : goal.weigh_counts-requires
 weigh_counts-requires c = c.count_pairs-e.ensures.variables_bound

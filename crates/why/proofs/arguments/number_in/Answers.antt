@@ -1,17 +1,17 @@
--- One digit after the other, and those that are there.
+-- The digits one after the other.
 -- Assumes nothing.
 use native.Mathlib.Omega.{arith}
-use Rattle.why.proofs.ArgumentLaws.{one, two, three, four}
+use Rattle.why.proofs.ArgumentLaws.{rest-first, rest-next, rest-stop, rest-last}
 use Rattle.why.proofs.arguments.number_in.Goals as goal
 
-pub returns-then-n-le1 : goal.returns-then-n-le1
-returns-then-n-le1 c = ((λ e k. one c.args.four.now e c.args.n _ c.with_digit-a.ensures.0 k (omega arith)), omega arith)
+pub loop-b-init : goal.loop-b-init
+loop-b-init c = record { rest = rest-first _; below = omega arith }
 
-pub returns-then-n-le2 : goal.returns-then-n-le2
-returns-then-n-le2 c = ((λ e k. two c.args.four.now e c.args.n _ c.with_digit-a.ensures.0 _ c.with_digit-b.ensures.0 (omega arith) (omega arith)), omega arith)
+pub returns-in_err-n-clause-value : goal.returns-in_err-n-clause-value
+returns-in_err-n-clause-value c = λ h. rw c.from_residual.ensures (rest-stop c.loop-b.n c.loop-b.b-index _ (omega arith) h c.loop-b.invariant.rest c.in_err-n.ensures.value)
 
-pub returns-then-n-le3 : goal.returns-then-n-le3
-returns-then-n-le3 c = ((λ e k. three c.args.four.now e c.args.n _ c.with_digit-a.ensures.0 _ c.with_digit-b.ensures.0 _ c.with_digit-c.ensures.0 (omega arith) (omega arith)), omega arith)
+pub loop-b-preserved : goal.loop-b-preserved
+loop-b-preserved c = record { rest = rest-next c.loop-b.n c.loop-b.b-index _ _ (omega arith) c.loop-b.invariant.rest c.in_ok-n.ensures.value; below = c.in_ok-n.ensures.below }
 
-pub returns : goal.returns
-returns c = ((λ e k. four c.args.four.now e c.args.n _ c.with_digit-a.ensures.0 _ c.with_digit-b.ensures.0 _ c.with_digit-c.ensures.0 _ c.with_digit.ensures.0 (omega arith)), omega arith)
+pub returns-clause-value : goal.returns-clause-value
+returns-clause-value c = λ h. rest-last c.loop-b.n c.loop-b.b-index _ (omega arith) h c.loop-b.invariant.rest

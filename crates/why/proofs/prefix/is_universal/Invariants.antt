@@ -1,6 +1,6 @@
 -- What is left of the prefix decides.
 -- Assumes nothing.
-use Prim.Native.Nat.{◌≤◌, ◌-◌, ◌+◌, ◌*◌}
+use Prim.Native.Nat.{◌+◌, ◌*◌}
 use mathlib.Core.Path.{◌≡◌}
 use lib.ListN.{drop}
 use Rattle.meaning.specs.Lists.{has}
@@ -8,7 +8,4 @@ use Rattle.why.specs.Places.{prefix_counted}
 use Rattle.why.proofs.prefix.is_universal.Given as goal
 
 abbrev pub invariant-loop-i : goal.invariant-loop-i
-invariant-loop-i l = (l.i ≤ l.n) × (has (2 * l.v + 1) (prefix_counted l.first l.second l.c) ≡ has (2 * l.v + 1) (drop l.i (prefix_counted l.first l.second l.c)))
-
-abbrev pub decreases-loop-i : goal.decreases-loop-i
-decreases-loop-i l = l.n - l.i
+invariant-loop-i l = has (2 * l.v + 1) (prefix_counted l.first l.second l.c) ≡ has (2 * l.v + 1) (drop l.i (prefix_counted l.first l.second l.c))

@@ -9,7 +9,7 @@ pub returns-then-i-gt1022 : goal.returns-then-i-gt1022
 returns-then-i-gt1022 c = place-past c.args.first.now c.args.second.now c.args.c c.args.i c.if-i-gt1022.true
 
 pub returns-then-c : goal.returns-then-c
-returns-then-c c = c.wide.ensures ∙ place-second c.args.first.now c.args.second.now c.args.c c.args.i (omega arith) c.if-c.true
+returns-then-c c = c.from.ensures ∙ place-second c.args.first.now c.args.second.now c.args.c c.args.i (omega arith) c.if-c.true
 
 pub returns : goal.returns
-returns c = c.wide-2.ensures ∙ place-first c.args.first.now c.args.second.now c.args.c c.args.i (omega arith) c.if-c.false
+returns c = c.from-2.ensures ∙ place-first c.args.first.now c.args.second.now c.args.c c.args.i (omega arith) c.if-c.false

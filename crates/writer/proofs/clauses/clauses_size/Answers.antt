@@ -2,13 +2,11 @@
 -- Assumes nothing.
 use Prim.Native.Nat.{◌+◌}
 use native.Mathlib.Omega.{arith}
-use Rattle.table.proofs.HoldLaws.{bounds}
 use Rattle.writer.proofs.ClauseLaws.{counted_start, clause-short, counted-small, counted-turn, counted-done}
-use borrow.Author.Rules.{rules}
 use Rattle.writer.proofs.clauses.clauses_size.Goals as goal
 
 pub loop-i-init : goal.loop-i-init
-loop-i-init c = (search rules, λ φ h. counted_start _)
+loop-i-init c = λ φ h. counted_start _
 
 pub clause_at-requires-clause-held : goal.clause_at-requires-clause-held
 clause_at-requires-clause-held c = c.requires
@@ -20,13 +18,10 @@ pub clause_size-n-requires : goal.clause_size-n-requires
 clause_size-n-requires c = clause-short c.requires.holds c.loop-i.i c.loop-i-test.true _ (c.clause_at.ensures _ c.requires.holds)
 
 pub overflow_add-n : goal.overflow_add-n
-overflow_add-n c = let k = counted-small c.requires.holds (c.loop-i.i + 1) _ (counted-turn c.requires.holds c.loop-i.i _ (c.loop-i.invariant.1 _ c.requires.holds) c.loop-i-test.true _ (c.clause_at.ensures _ c.requires.holds) _ c.clause_size-n.ensures) (omega arith) in omega arith
-
-pub overflow_add-i : goal.overflow_add-i
-overflow_add-i c = let b = bounds c.requires in omega arith
+overflow_add-n c = let k = counted-small c.requires.holds (c.loop-i.i + 1) _ (counted-turn c.requires.holds c.loop-i.i _ (c.loop-i.invariant _ c.requires.holds) c.loop-i-test.true _ (c.clause_at.ensures _ c.requires.holds) _ c.clause_size-n.ensures) (omega arith) in omega arith
 
 pub loop-i-preserved : goal.loop-i-preserved
-loop-i-preserved c = (search rules, λ φ h. counted-turn h c.loop-i.i _ (c.loop-i.invariant.1 φ h) c.loop-i-test.true _ (c.clause_at.ensures φ h) _ c.clause_size-n.ensures)
+loop-i-preserved c = λ φ h. counted-turn h c.loop-i.i _ (c.loop-i.invariant φ h) c.loop-i-test.true _ (c.clause_at.ensures φ h) _ c.clause_size-n.ensures
 
 pub returns : goal.returns
-returns c = λ φ h. counted-done h c.loop-i.i _ (c.loop-i.invariant.1 φ h) (omega arith) c.loop-i.invariant.0
+returns c = λ φ h. counted-done h c.loop-i.i _ (c.loop-i.invariant φ h) (omega arith) (omega arith)

@@ -1,6 +1,5 @@
 -- The sizes of the lines, added up.
 -- Assumes nothing.
-use Prim.Native.Nat.{◌-◌, ◌≤◌}
 use Rattle.meaning.specs.Formula.{Formula}
 use Rattle.table.specs.Table.{Holds}
 use Rattle.writer.proofs.ClauseLaws.{Counted}
@@ -8,7 +7,4 @@ use Rattle.writer.proofs.clauses.clauses_size.Given as goal
 
 -- the bytes of the clauses that are passed, for whichever formula is held
 abbrev pub invariant-loop-i : goal.invariant-loop-i
-invariant-loop-i l = (l.i ≤ l.c.clauses) × ((φ : Formula) → Holds φ l.t l.c → Counted φ.clauses l.i l.n)
-
-abbrev pub decreases-loop-i : goal.decreases-loop-i
-decreases-loop-i l = l.c.clauses - l.i
+invariant-loop-i l = (φ : Formula) → Holds φ l.t l.c → Counted φ.clauses l.i l.n

@@ -1,14 +1,12 @@
 -- The lines, one after the other.
 -- Assumes nothing.
 use native.Mathlib.Omega.{arith}
-use Rattle.table.proofs.HoldLaws.{bounds}
 use Rattle.lines.proofs.Writing.{going_start}
 use Rattle.writer.proofs.ClauseLaws.{lines-room, lines-turn, lines-done}
-use borrow.Author.Rules.{rules}
 use Rattle.writer.proofs.clauses.write_clauses.Goals as goal
 
 pub loop-i-init : goal.loop-i-init
-loop-i-init c = (search rules, λ φ h. going_start _ _ _)
+loop-i-init c = λ φ h. going_start _ _ _
 
 pub clause_at-requires-clause-held : goal.clause_at-requires-clause-held
 clause_at-requires-clause-held c = c.requires.held
@@ -17,13 +15,10 @@ pub clause_at-requires-clause-i_lt_clauses : goal.clause_at-requires-clause-i_lt
 clause_at-requires-clause-i_lt_clauses c = c.loop-i-test.true
 
 pub write_clause-at-requires : goal.write_clause-at-requires
-write_clause-at-requires c = lines-room c.requires.held.holds c.loop-i.i (c.loop-i.invariant.1 _ c.requires.held.holds) c.loop-i-test.true _ (c.clause_at.ensures _ c.requires.held.holds) (c.requires.room _ c.requires.held.holds)
-
-pub overflow_add-i : goal.overflow_add-i
-overflow_add-i c = let b = bounds c.requires.held in omega arith
+write_clause-at-requires c = lines-room c.requires.held.holds c.loop-i.i (c.loop-i.invariant _ c.requires.held.holds) c.loop-i-test.true _ (c.clause_at.ensures _ c.requires.held.holds) (c.requires.room _ c.requires.held.holds)
 
 pub loop-i-preserved : goal.loop-i-preserved
-loop-i-preserved c = (search rules, λ φ h. lines-turn h c.loop-i.i (c.loop-i.invariant.1 φ h) c.loop-i-test.true _ (c.clause_at.ensures φ h) c.write_clause-at.ensures)
+loop-i-preserved c = λ φ h. lines-turn h c.loop-i.i (c.loop-i.invariant φ h) c.loop-i-test.true _ (c.clause_at.ensures φ h) c.write_clause-at.ensures
 
 pub returns : goal.returns
-returns c = λ φ h. lines-done h c.loop-i.i (c.loop-i.invariant.1 φ h) (omega arith)
+returns c = λ φ h. lines-done h c.loop-i.i (c.loop-i.invariant φ h) (omega arith)
