@@ -19,10 +19,7 @@ fn may_go(source: &[u16], c: Counts, ranks: &Ranks, call: Call, known: bool) -> 
     requires { Held source.now c × ((φ : Formula) → Given φ source.now c ranks.now → known ≡ true → call_permitted φ (called call) ≡ true) }
     ensures { (φ : Formula) → Given φ source.now c ranks.now → result ≡ call_permitted φ (called call) }
 {
-    if known {
-        return true;
-    }
-    is_permitted(source, c, ranks, call)
+    known || is_permitted(source, c, ranks, Some(call))
 }
 
 // Does the step that the entry calls into a target that is all zero, where it is permitted.

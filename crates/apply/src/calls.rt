@@ -14,6 +14,7 @@ use steps::{equality_into, pure_into, strengthen_into, subsume_into, unit_into};
 use table::{Counts, Ranks, Scratch};
 
 // A permitted step, into a target that is all zero; None for want of room.
+// Kept: one match over the steps, since each kind is done by a function of its own and a caller has a call of any kind.
 pub fn perform(
     source: &[u16],
     c: Counts,

@@ -116,9 +116,8 @@ fn choose_indexed(
     requires { Unsettled t.now c searched × (length spare.old ≡ 11261) × (allowance ≤ 1000) × TallyIn t.now c spare.old }
     ensures { (φ : Formula) → Holds φ t.now c → well_formed φ ≡ true → empty_clause φ.clauses ≡ false → SearchedTo φ searched → ChosenAs φ (next_from allowance φ subsume) result }
 {
-    let n = c.variables;
     let mut ranks = [0u16; 1024];
-    rank_prefix(&t[..n], &mut ranks);
+    rank_prefix(&t[..c.variables], &mut ranks);
     build_index(t, c, spare);
     let at = AtHand {
         table: t,

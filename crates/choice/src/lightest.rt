@@ -34,10 +34,9 @@ pub fn best_resolve(at: &AtHand) -> Result<usize, Lack>
     let mut scratch = [0u16; 1023];
     let mut again = [0u16; 1023];
     let mut s = Standing::new(c.variables + c.clauses + c.literals);
-    let m = c.variables;
-    let mut n = first_universal(&t[..m], 0);
+    let mut n = first_universal(&t[..c.variables], 0);
     for i in 0..c.variables {
-        n = next_universal(&t[..m], i, n);
+        n = next_universal(&t[..c.variables], i, n);
         let v = (t[i] / 2) as usize;
         let w = weigh_resolve(at, &mut scratch, &mut again, v, n, s.below);
         s = s.after(v, w);
@@ -46,6 +45,7 @@ pub fn best_resolve(at: &AtHand) -> Result<usize, Lack>
 }
 
 // Kind 7 counts only where the weight falls or rises by at most the allowance.
+// Kept: by number, since the proof speaks of the variables from there on.
 pub fn best_expand(t: &[u16], c: Counts, ranks: &Ranks, allowance: usize) -> Result<usize, Lack>
     requires { Ranked t.now c ranks.now × (allowance ≤ 1000) }
     ensures { (φ : Formula) → Ranks φ t.now c ranks.now → result ≡ best_of allowance φ expand }

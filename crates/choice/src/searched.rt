@@ -19,13 +19,12 @@ pub fn searched_without(t: &[u16], c: Counts, tally: &[u16], a: usize, searched:
     requires a_bound { a < 2048 }
     ensures { (φ : Formula) → Holds φ t.now c → Tallies φ tally.now → pure_permitted φ a ≡ true → SearchedTo φ searched → SearchedTo (result_of φ pure a 0) result }
 {
-    let n = c.variables;
     let literal = 2 * a as u16;
     let gone = times_in(tally, literal) as usize + times_in(tally, literal + 1) as usize;
     if gone == 0 {
         return searched;
     }
-    if contains(&t[..n], literal + 1) {
+    if contains(&t[..c.variables], literal + 1) {
         return 0;
     }
     searched.saturating_sub(gone)

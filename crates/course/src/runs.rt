@@ -31,8 +31,7 @@ pub fn run(
     // Kept: no range counts the turns, since the choice comes before the test of the limit, at the last turn too.
     loop {
         let chosen = choose_between(first, second, d, allowance, searched);
-        let next = chosen.next;
-        match next {
+        match chosen.next {
             Next::Over(end) => {
                 return Running {
                     outcome: Some(end),

@@ -111,10 +111,9 @@ pub fn expand_into(
         return None;
     }
     let v = a as u16;
-    let k = c.variables;
-    let n = count_existentials(&source[..k], place_of(ranks, a));
+    let n = count_existentials(&source[..c.variables], place_of(ranks, a));
     let d = copy_prefix(source, c, v, target, !c.second);
-    let e = push_copies(target, d, ranks, k as u16, n as u16)?;
+    let e = push_copies(target, d, ranks, c.variables as u16, n as u16)?;
     let m = e.variables;
     rank_prefix(&target[..m], ranks);
     // the inner existentials stand right of this place

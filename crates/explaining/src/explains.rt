@@ -38,6 +38,7 @@ pub enum ReasonAnswer {
 
 impl ReasonAnswer {
     // Document 01's number of a verdict or a refusal; 0 for the other reasons.
+    // Kept: C takes numbers, and the demands speak of them.
     #[tactic(auto, unfolding(crate::specs::Explaining::reason_number))]
     pub fn number(self) -> u8
         ensures { result ≡ reason_number self }
@@ -125,8 +126,7 @@ fn reason_at(
     ensures value { (φ : Formula) → Holds φ t.now c → well_formed φ ≡ true → result ≡ answer_on φ variable allowance }
     ensures spare_after { spare.new ≡ table_of empty_formula }
 {
-    let n = c.variables;
-    if has_variable(&t[..n], variable) {
+    if has_variable(&t[..c.variables], variable) {
         return explain(t, c, spare, variable, allowance).into();
     }
     zero(spare);

@@ -1,4 +1,5 @@
 // A reason as numbers, for callers who take numbers only: its kind, and the values that it names.
+// Kept: 0 for no kind and for no value, since C takes numbers and the definitions give these.
 ghost use Rattle.std.specs.Prelude.{◌≡◌};
 ghost use Rattle.explaining.specs.Values.{reason_kind, reason_values};
 

@@ -5,6 +5,7 @@ ghost use Rattle.exports.specs.Records.{counts_in, record_of, side_number};
 use rimhlada::Counts;
 
 // The record that the first four numbers are; none where the fourth names neither table.
+// Kept: four numbers, since the C interface lends a record as an array of them.
 pub fn counts_in(counts: &[u64; 5]) -> Option<Counts>
     ensures { MatchOption result (1 < get_or counts.now 3 0) (λ c. (get_or counts.now 3 0 ≤ 1) × (c ≡ counts_in counts.now)) }
 {
@@ -33,6 +34,7 @@ pub fn give(counts: &mut [u64; 5], c: Counts, n: usize)
 }
 
 // The refusal of a record that names neither table: lengths first.
+// Kept: a number, since C takes it, and there is no record to ask the face with.
 pub fn side_number(first: &[u16], second: &[u16]) -> u8
     ensures { result ≡ side_number first.now second.now }
 {

@@ -29,6 +29,7 @@ pub fn cover(t: &[u16], c: Counts, filter: &mut [u64])
 }
 
 // The clause after the others, unless an equal one is there.
+// Kept: three adders and no closure, since each lends the table, and the filter beside it, in its own way.
 fn add_filtered(t: &mut [u16], c: Counts, clause: &[u16], filter: &mut [u64]) -> Option<Counts>
     requires held { Held t.old c }
     requires covers { Covers t.old c filter.old }
@@ -56,6 +57,7 @@ pub fn close_filtered(
     ensures became { (φ : Formula) (raw : List ℕ) → Holds φ t.old c → good_prefix φ.prefix ≡ true → ranks.now ≡ ranks_of φ.prefix → Pends raw scratch.old p → Became φ (with_raw φ raw) c.second result t.new }
     ensures covers_2 { (d : Counts) → result ≡ Some d → Covers t.new d filter.new }
 {
+    // Kept: no closure, since adding lends the table, and the filter beside it.
     match tidy_in(scratch, p, ranks) {
         Some(m) => add_filtered(t, c, &scratch[..m], filter),
         None => Some(c),
@@ -63,6 +65,7 @@ pub fn close_filtered(
 }
 
 // A clause that is none of those whose stamps may be missing: after the others, unless an equal one is there.
+// Kept: see add_filtered.
 pub fn add_apart(t: &mut [u16], c: Counts, clause: &[u16], filter: &[u64]) -> Option<Counts>
     requires held { Held t.old c }
     requires filter_len { length filter.now ≡ 8 }
@@ -75,6 +78,7 @@ pub fn add_apart(t: &mut [u16], c: Counts, clause: &[u16], filter: &[u64]) -> Op
 }
 
 // The clause after the others, unless an equal one is there; any of them may be equal. Its stamp goes into the filter.
+// Kept: see add_filtered.
 fn add_stamped(t: &mut [u16], c: Counts, clause: &[u16], filter: &mut [u64]) -> Option<Counts>
     requires held { Held t.old c }
     requires filter_len { length filter.old ≡ 8 }
@@ -100,6 +104,7 @@ pub fn close_stamped(
     ensures became { (φ : Formula) (raw : List ℕ) → Holds φ t.old c → good_prefix φ.prefix ≡ true → ranks.now ≡ ranks_of φ.prefix → Pends raw scratch.old p → Became φ (with_raw φ raw) c.second result t.new }
     ensures by_index { (others : List (List ℕ)) (d : Counts) → CoversBut others t.old c filter.old → result ≡ Some d → CoversBut others t.new d filter.new }
 {
+    // Kept: no closure, since adding lends the table, and the filter beside it.
     match tidy_in(scratch, p, ranks) {
         Some(m) => add_stamped(t, c, &scratch[..m], filter),
         None => Some(c),

@@ -24,6 +24,7 @@ pub fn is_raised(words: &[u64], j: usize) -> bool
 }
 
 // How many bits of the word, from one on, are 0 before the next that is 1, or before its end.
+// Kept: a number and no Option, since the walk goes on by it either way.
 fn zeros_from(word: u64, bit: usize) -> usize
     requires { bit < 64 }
     ensures result_bound { bit + result ≤ 64 }
@@ -61,6 +62,7 @@ fn seek(words: &[u64], from: usize, to: usize) -> usize
 }
 
 // The same. Often it is the first one, and then nothing has to wait for a count of zeros.
+// Kept: a number and no Option, since it bounds a range of numbers, and a caller goes on while it is below the other end.
 pub fn next_raised(words: &[u64], from: usize, to: usize) -> usize
     requires { (from ≤ to) × (to ≤ 64 * length words.now) }
     ensures lower_bound { (from ≤ result) × (result ≤ to) }

@@ -21,10 +21,7 @@ fn is_right(t: &[u16], c: Counts, clause: &[u16], hint: usize) -> bool
     ensures hint_lt_clauses { result ≡ true → hint < c.clauses }
     ensures clause_value { (φ : Formula) → Holds φ t.now c → result ≡ true → any_of (same clause.now) φ.clauses ≡ true }
 {
-    if hint < c.clauses {
-        return equal(clause, clause_at(t, c, hint));
-    }
-    false
+    hint < c.clauses && equal(clause, clause_at(t, c, hint))
 }
 
 // The number becomes the first of the two hints at a place, and what was the first the second, unless the clause of m literals reaches there.
@@ -77,6 +74,7 @@ pub fn close_hinted(
     requires pended { Pended scratch.old p }
     ensures { (φ : Formula) (raw : List ℕ) → Holds φ t.old c → good_prefix φ.prefix ≡ true → ranks.now ≡ ranks_of φ.prefix → Pends raw scratch.old p → Became φ (with_raw φ raw) c.second result t.new }
 {
+    // Kept: no closure, since adding lends the table, and the scratch beside it.
     match tidy_in(scratch, p, ranks) {
         Some(m) => add_hinted(t, c, scratch, m),
         None => Some(c),

@@ -24,6 +24,7 @@ pub fn clauses_with(index: &[u16], literal: u16) -> &[u16]
     requires { Indexed index.now }
     ensures { (φ : Formula) → Indexes φ index.now → result.now ≡ clauses_with φ.clauses literal }
 {
+    // Kept: a case of its own, since an index has no list to begin there.
     if 2047 < literal {
         return &index[..0];
     }
@@ -39,6 +40,7 @@ pub fn clauses_of(index: &[u16], v: u16) -> &[u16]
     requires { Indexed index.now }
     ensures { (φ : Formula) → Indexes φ index.now → result.now ≡ clauses_with φ.clauses (2 * v) ++ clauses_with φ.clauses (2 * v + 1) }
 {
+    // Kept: as above.
     if 1023 < v {
         return &index[..0];
     }

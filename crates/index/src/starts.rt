@@ -22,6 +22,7 @@ pub fn count_literals(literals: &[u16], index: &mut [u16])
 }
 
 // How many literals are lower than each literal, where a tally was: there its list begins.
+// Kept: by number, since the proof speaks of the places below it.
 pub fn list_starts(index: &mut [u16])
     requires { Tallied index.old }
     ensures { (φ : Formula) → Tallies φ index.old → index.new ≡ starts_in (all_literals φ.clauses) }

@@ -32,16 +32,11 @@ pub fn layout_ok(t: &[u16], c: Counts) -> bool
     let v = c.variables;
     let n = c.clauses;
     let m = c.literals;
-    if t.len() != Counts::TABLE {
-        return false;
-    }
-    if Counts::VARIABLES < v {
-        return false;
-    }
-    if Counts::CLAUSES < n {
-        return false;
-    }
-    if Counts::LITERALS < m {
+    if t.len() != Counts::TABLE
+        || Counts::VARIABLES < v
+        || Counts::CLAUSES < n
+        || Counts::LITERALS < m
+    {
         return false;
     }
     let after = Counts::ENDS_AT + n;

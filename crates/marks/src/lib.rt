@@ -98,6 +98,7 @@ pub fn close_marked(
     requires pended { Pended scratch.old p }
     ensures { (φ : Formula) (raw : List ℕ) → Holds φ t.old c → good_prefix φ.prefix ≡ true → ranks.now ≡ ranks_of φ.prefix → Pends raw scratch.old p → Marks φ.clauses marks.old → Went φ (with_raw φ raw) c.second result t.new marks.new }
 {
+    // Kept: no closure, since adding lends the table, and the marks beside it.
     match tidy_in(scratch, p, ranks) {
         Some(m) => add_marked(t, c, &scratch[..m], marks),
         None => Some(c),

@@ -9,6 +9,7 @@ ghost use Rattle.merging.specs.Merging.{head_of, joined, Ordered, Merges};
 use table::{Pending, Scratch};
 
 // Above all literals.
+// Kept: a number and no Option, so that the inner loop compares numbers alone.
 const END: u16 = 4095;
 
 // How far it has come: in the first clause, in the second, and in the scratch.

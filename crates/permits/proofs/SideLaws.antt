@@ -32,7 +32,7 @@ module _ (p x : List ℕ) (l n : ℕ) (t : Bool) (is : t ≡ has l x) where
   near-not e = rw (← is, e)
 
 -- What stands behind n entries is avoided exactly by the clauses within n ----------------------------------------
-not_behind : (n m : ℕ) → not (ltb n m) ≡ leb m n
+pub not_behind : (n m : ℕ) → not (ltb n m) ≡ leb m n
 not_behind n m =
     by_cases (ltb n m)
     (λ t. ap not t ∙ sym (lt-leb m n (ltb-true n m t)))

@@ -16,6 +16,7 @@ fn alone(call: Call, b: usize) -> Option<Call>
 }
 
 // The call that an entry says; none where the entry is bad.
+// Kept: an Option, since an entry is bad in one way only and there is no error to name.
 pub fn read_entry(e: u32) -> Option<Call>
     ensures { call_read result ≡ read_entry e }
 {
@@ -38,6 +39,7 @@ pub fn read_entry(e: u32) -> Option<Call>
 }
 
 // The entry that calls a step, by the number of its kind.
+// Kept: the clause speaks of the kind's code, and document 01 gives each kind that number.
 pub fn entry_of(kind: u32, a: usize, b: usize) -> u32
     requires { (kind < 8) × (a < 2048) × (b < 2048) }
     ensures { (k : Kind) → kind ≡ code k → result ≡ entry k a b }

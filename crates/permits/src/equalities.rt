@@ -16,10 +16,7 @@ use table::{Counts, Ranks, clause_at, flip};
 fn opposite_pair(x: &[u16], y: &[u16]) -> bool
     ensures { result ≡ opposite_pair x.now y.now }
 {
-    if x.len() != 2 {
-        return false;
-    }
-    if y.len() != 2 {
+    if x.len() != 2 || y.len() != 2 {
         return false;
     }
     y[0] == flip(x[0]) && y[1] == flip(x[1])
@@ -30,10 +27,7 @@ pub fn equality_permitted(t: &[u16], c: Counts, a: usize, b: usize) -> bool
     requires { Held t.now c }
     ensures { (φ : Formula) → Holds φ t.now c → result ≡ equality_permitted φ a b }
 {
-    if b <= a {
-        return false;
-    }
-    if c.clauses <= b {
+    if b <= a || c.clauses <= b {
         return false;
     }
     opposite_pair(clause_at(t, c, a), clause_at(t, c, b))

@@ -13,18 +13,14 @@ use table::{Counts, Ranks};
 fn all_exist(prefix: &[u16], from: usize) -> bool
     ensures { result ≡ all_exist (drop from prefix.now) }
 {
-    for i in from..prefix.len() {
-        if prefix[i] % 2 == 1 {
-            return false;
-        }
-    }
-    true
+    prefix.iter().skip(from).all(|q| *q % 2 == 0)
 }
 
 // Whether, from an index on, no existential is followed by a universal.
 fn universals_first(prefix: &[u16], from: usize) -> bool
     ensures { result ≡ universals_first (drop from prefix.now) }
 {
+    // Kept: at the first existential the test becomes another one, of all that is left.
     for i in from..prefix.len() {
         if prefix[i] % 2 == 0 {
             return all_exist(prefix, i + 1);

@@ -26,10 +26,7 @@ pub fn pure_permitted(t: &[u16], c: Counts, ranks: &Ranks, a: usize) -> bool
     requires held { Held t.now c }
     ensures { (φ : Formula) → Holds φ t.now c → well_formed φ ≡ true → ranks.now ≡ ranks_of φ.prefix → result ≡ rules.pure_permitted φ a }
 {
-    if Counts::VARIABLES < a {
-        return false;
-    }
-    in_prefix(ranks, a) && !both_occur(t, c, a)
+    a <= Counts::VARIABLES && in_prefix(ranks, a) && !both_occur(t, c, a)
 }
 
 // The literal of a that occurs; if none does, the negated one.
@@ -50,6 +47,7 @@ pub fn pure_literal(t: &[u16], c: Counts, ranks: &Ranks, a: usize) -> u16
     requires held { Held t.now c }
     ensures { (φ : Formula) → Holds φ t.now c → well_formed φ ≡ true → ranks.now ≡ ranks_of φ.prefix → rules.pure_permitted φ a ≡ true → result ≡ pure_true φ a }
 {
+    // Kept: a number and no Option, since the definition pure_true gives a literal, and a caller asks where the step is permitted.
     if Counts::VARIABLES < a {
         return 0;
     }

@@ -11,6 +11,7 @@ use crate::ranks::{is_existential, place_of};
 use table::{Counts, Ranks, clause_at, contains};
 
 // How many entries stand left of the first universal from an index on; where there is none, all.
+// Kept: a number and no Option, since resolve looks for what stands behind that number; a loop, since its index is what it answers.
 pub fn first_universal(prefix: &[u16], from: usize) -> usize
     ensures { from_universal (drop from prefix.now) ≡ drop result prefix.now }
 {
@@ -66,12 +67,13 @@ pub fn resolve_permitted(t: &[u16], c: Counts, ranks: &Ranks, a: usize) -> bool
     requires held { Held t.now c }
     ensures { (φ : Formula) → Holds φ t.now c → well_formed φ ≡ true → ranks.now ≡ ranks_of φ.prefix → result ≡ resolve_permitted φ a }
 {
-    if Counts::VARIABLES < a {
-        return false;
-    }
-    if is_existential(ranks, a) {
-        let n = first_universal(&t[..c.variables], place_of(ranks, a));
-        return sides_within(t, c, ranks, a, n);
-    }
-    false
+    a <= Counts::VARIABLES
+        && is_existential(ranks, a)
+        && sides_within(
+            t,
+            c,
+            ranks,
+            a,
+            first_universal(&t[..c.variables], place_of(ranks, a)),
+        )
 }

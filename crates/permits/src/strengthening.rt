@@ -29,10 +29,7 @@ fn others_in(x: &[u16], y: &[u16], l: u16) -> bool
 fn strengthens_by(x: &[u16], y: &[u16], ranks: &Ranks, l: u16) -> bool
     ensures { (p : List ℕ) → ranks.now ≡ ranks_of p → good_entries p ≡ true → result ≡ rules.strengthens p x.now y.now l }
 {
-    if is_existential(ranks, (l / 2) as usize) {
-        return contains(y, flip(l)) && others_in(x, y, l);
-    }
-    false
+    is_existential(ranks, (l / 2) as usize) && contains(y, flip(l)) && others_in(x, y, l)
 }
 
 // The first literal of x that strengthens y.
@@ -47,10 +44,7 @@ pub fn strengthening_of(t: &[u16], c: Counts, ranks: &Ranks, a: usize, b: usize)
     requires held { Held t.now c }
     ensures { (φ : Formula) → Holds φ t.now c → well_formed φ ≡ true → ranks.now ≡ ranks_of φ.prefix → result ≡ strengthening_of φ a b }
 {
-    if c.clauses <= a {
-        return None;
-    }
-    if c.clauses <= b {
+    if c.clauses <= a || c.clauses <= b {
         return None;
     }
     first_strengthening(clause_at(t, c, a), clause_at(t, c, b), ranks)

@@ -11,13 +11,7 @@ pub fn subsume_permitted(t: &[u16], c: Counts, a: usize, b: usize) -> bool
     requires { Held t.now c }
     ensures { (φ : Formula) → Holds φ t.now c → result ≡ subsume_permitted φ a b }
 {
-    if c.clauses <= a {
-        return false;
-    }
-    if c.clauses <= b {
-        return false;
-    }
-    if a == b {
+    if c.clauses <= a || c.clauses <= b || a == b {
         return false;
     }
     part_of(clause_at(t, c, a), clause_at(t, c, b))

@@ -15,6 +15,7 @@ pub fn unit_permitted(t: &[u16], c: Counts, a: usize) -> bool
 }
 
 // Literal k of clause a; 0 where there is none.
+// Kept: a number and no Option, since the definitions take a literal with get_or, 0 where there is none.
 pub fn literal_at(t: &[u16], c: Counts, a: usize, k: usize) -> u16
     requires { Held t.now c }
     ensures { (φ : Formula) → Holds φ t.now c → result ≡ get_or (clause_at φ.clauses a) k 0 }

@@ -26,6 +26,7 @@ pub enum ReadAnswer {
 
 impl ReadAnswer {
     // The number that document 01 gives it.
+    // Kept: C takes numbers, and the demands speak of them.
     pub fn number(self) -> u8
         ensures { result ≡ read_number self }
     {
@@ -52,6 +53,7 @@ pub struct Reading {
 }
 
 // The answer for a refusal's number.
+// Kept: a number, since `Move::Fault` has document 01's numbers.
 fn answer_for(k: u8) -> ReadAnswer
     ensures { result ≡ answer_for k }
 {
@@ -83,6 +85,7 @@ pub fn read(text: &[u8], first: &mut [u16], second: &mut [u16]) -> Reading
     ensures { Reads text.now first.old second.old result first.new second.new }
 {
     if first.len() != Counts::TABLE || second.len() != Counts::TABLE || 65536 < text.len() {
+        // Kept: document 01's number, as the definition of Reads gives it.
         return refuse(1, 0);
     }
     zero(first);

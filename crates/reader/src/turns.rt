@@ -30,10 +30,7 @@ pub struct Fault {
 pub fn seen(ranks: &Ranks, v: u16) -> bool
     ensures { (p : List ℕ) → all_of (λ q. leb (var q) max_variables) p ≡ true → ranks.now ≡ ranks_of p → result ≡ mentions p v }
 {
-    if 1023 < v {
-        return false;
-    }
-    ranks[v as usize] != 0
+    v <= 1023 && ranks[v as usize] != 0
 }
 
 // What a word does.
@@ -53,6 +50,7 @@ pub fn conclude(r: Reader, n: usize) -> Result<Counts, Fault>
         return Ok(r.counts);
     }
     Err(Fault {
+        // Kept: document 01's number, as `concluded` gives it.
         number: 4,
         offset: n,
     })
@@ -72,6 +70,7 @@ pub fn fill(
 {
     let mut at = skip_preamble(text);
     let mut r = Reader::new();
+    // Kept: it goes on from token to token, which no range counts.
     while let Some((a, e)) = next_token(text, at) {
         let w = read_word(&text[a..e]);
         let mv = judge(r, ranks, w);

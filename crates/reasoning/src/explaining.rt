@@ -19,8 +19,7 @@ fn explain_with(t: &[u16], c: Counts, spare: &mut [u16], v: usize, allowance: us
     ensures { (φ : Formula) → Holds φ t.now c → well_formed φ ≡ true → mentions φ.prefix v ≡ true → result ≡ why_as (reason_of allowance φ v) }
 {
     let chosen = choose(t, c, spare, allowance, 0);
-    let next = chosen.next;
-    match next {
+    match chosen.next {
         Next::Over(end) => match end {
             End::True => Why::True,
             End::False => Why::False,

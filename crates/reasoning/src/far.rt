@@ -23,6 +23,7 @@ fn reaches_far(clause: &[u16], ranks: &Ranks, x: usize, n: usize) -> bool
 }
 
 // The lowest clause that does; how many there are, if none does.
+// Kept: a number and no Option, since the definition names that number.
 fn far_clause(t: &[u16], c: Counts, ranks: &Ranks, x: usize, n: usize) -> usize
     requires held { Held t.now c }
     ensures { (φ : Formula) → Holds φ t.now c → well_formed φ ≡ true → ranks.now ≡ ranks_of φ.prefix → far_part φ x ≡ drop n φ.prefix → result ≡ far_clause φ x }
@@ -36,6 +37,7 @@ fn far_clause(t: &[u16], c: Counts, ranks: &Ranks, x: usize, n: usize) -> usize
 }
 
 // The leftmost variable of the clause behind n entries; 0 where there is none.
+// Kept: a number and no Option, since the definition gives 0.
 fn leftmost_behind(prefix: &[u16], n: usize, clause: &[u16]) -> usize
     ensures { result ≡ leftmost_in (drop n prefix.now) clause.now }
 {
@@ -46,7 +48,7 @@ fn leftmost_behind(prefix: &[u16], n: usize, clause: &[u16]) -> usize
     (first.copied().unwrap_or(0) / 2) as usize
 }
 
-// The leftmost variable of clause i behind n entries; 0 where there is none.
+// The leftmost variable of clause i behind n entries; 0 where there is none. Kept: the same.
 fn far_variable(t: &[u16], c: Counts, n: usize, i: usize) -> usize
     requires { Held t.now c }
     ensures { (φ : Formula) → Holds φ t.now c → result ≡ leftmost_in (drop n φ.prefix) (clause_at φ.clauses i) }
@@ -54,8 +56,7 @@ fn far_variable(t: &[u16], c: Counts, n: usize, i: usize) -> usize
     if c.clauses <= i {
         return 0;
     }
-    let k = c.variables;
-    leftmost_behind(&t[..k], n, clause_at(t, c, i))
+    leftmost_behind(&t[..c.variables], n, clause_at(t, c, i))
 }
 
 // What keeps x from being resolved.
@@ -63,8 +64,7 @@ pub fn why_far(t: &[u16], c: Counts, ranks: &Ranks, x: usize) -> Why
     requires held { Held t.now c }
     ensures { (φ : Formula) → Holds φ t.now c → well_formed φ ≡ true → ranks.now ≡ ranks_of φ.prefix → mentions φ.prefix x ≡ true → result ≡ why.TooFarRight (far_clause φ x) (far_variable φ x) (universal_after φ x) }
 {
-    let k = c.variables;
-    let n = first_universal(&t[..k], place_of(ranks, x));
+    let n = first_universal(&t[..c.variables], place_of(ranks, x));
     let i = far_clause(t, c, ranks, x, n);
     let y = far_variable(t, c, n, i);
     Why::TooFarRight(i, y, universal_after(t, c, ranks, x))

@@ -46,9 +46,8 @@ pub fn why_left(t: &[u16], c: Counts, spare: &mut [u16], v: usize, allowance: us
     requires { HeldQuiet t.now c × (length spare.old ≡ 11261) × (allowance ≤ 1000) }
     ensures { (φ : Formula) → Holds φ t.now c → well_formed φ ≡ true → Quiet φ → mentions φ.prefix v ≡ true → result ≡ why_as (why_left allowance φ v) }
 {
-    let n = c.variables;
     let mut ranks = [0u16; 1024];
-    rank_prefix(&t[..n], &mut ranks);
+    rank_prefix(&t[..c.variables], &mut ranks);
     if is_universal(&ranks, v) {
         return why_universal(t, c, &ranks, v, allowance);
     }

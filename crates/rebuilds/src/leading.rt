@@ -43,7 +43,7 @@ pub fn copy_lead(
             return Some((i, e));
         }
         let next = push_clause(target, e, clause)?;
-        // Field by field: taken over whole, the record is read before all of it is written, and the loop waits.
+        // Kept: field by field. Taken over whole, the record is read before all of it is written, and the loop waits.
         e = Counts {
             variables: next.variables,
             clauses: next.clauses,

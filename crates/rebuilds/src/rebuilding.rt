@@ -70,6 +70,8 @@ fn add_one(
 }
 
 // What becomes of the clauses of the source from one on. The filter covers the target but for the clauses before it.
+// Kept: beside add_each_turned, whose filter covers all of the target: the two loops hold to other facts of the filter, and one that is
+// told what becomes of a clause would borrow the target, the scratch and the filter for as long as it runs.
 fn add_each(
     source: &[u16],
     c: Counts,
@@ -94,7 +96,7 @@ fn add_each(
     for i in from..c.clauses {
         let clause = clause_at(source, c, i);
         let next = add_one(target, e, clause, i, v, which, turn, scratch, ranks, filter)?;
-        // Field by field: taken over whole, the record is read before all of it is written, and the loop waits.
+        // Kept: field by field. Taken over whole, the record is read before all of it is written, and the loop waits.
         e = Counts {
             variables: next.variables,
             clauses: next.clauses,

@@ -61,7 +61,7 @@ pub fn add_each_turned(
     for i in 0..c.clauses {
         let clause = clause_at(source, c, i);
         let next = add_turned(target, e, clause, i, which, turn, scratch, ranks, filter)?;
-        // Field by field: taken over whole, the record is read before all of it is written, and the loop waits.
+        // Kept: field by field. Taken over whole, the record is read before all of it is written, and the loop waits.
         e = Counts {
             variables: next.variables,
             clauses: next.clauses,

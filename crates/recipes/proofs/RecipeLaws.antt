@@ -1,25 +1,26 @@
 -- Laws of recipes: one clause, one literal.
 -- Assumes nothing.
 use Prim.Native.Nat.{ℕ, suc, ◌+◌, ◌-◌, ◌*◌, ◌/◌, ◌%◌, ◌≤◌, ◌<◌}
-use mathlib.Core.Path.{◌≡◌, ap, ◌∙◌}
-use mathlib.Core.Bool.{Bool, true, false, ◌&&◌, not, cond}
+use mathlib.Core.Path.{◌≡◌, refl, ap, ◌∙◌}
+use mathlib.Core.Bool.{Bool, true, false, ◌&&◌, ◌||◌, not, cond}
 use mathlib.Core.List.{List, [], ◌∷◌, ◌++◌, append-nil, append_assoc}
 use lib.ListN.{length, get_or, take}
 use lib.Seq.{take-suc, take_all}
-use lib.Dec.{leb}
+use lib.Dec.{leb, ltb}
 use borrow.Author.Tests.{eq-eqb, ne_eqb, lt-ltb, le-ltb}
 use native.Mathlib.Omega.{arith}
 use native.Mathlib.Numerals.{add-one}
-use Rattle.meaning.specs.Lists.{all_of}
+use Rattle.meaning.specs.Lists.{all_of, any_of}
 use Rattle.meaning.specs.Formula.{var, opposite, is_var}
 use Rattle.rules.specs.Simplify.{replace_lit}
 use Rattle.table.specs.Ranks.{good_entries}
 use Rattle.table.specs.Pending.{in_range, Pends}
 use Rattle.std.specs.Prelude.{Option}
-use Rattle.permits.specs.Places.{place_from, place_of}
+use Rattle.permits.specs.Places.{place_from, place_of, within}
 use Rattle.meaning.specs.WellFormed.{good_prefix}
-use Rattle.recipes.specs.Recipe.{Ready, less, copy_of, copied, turned, some_of, fed}
+use Rattle.recipes.specs.Recipe.{Ready, reaches, less, copy_of, copied, turned, some_of, fed}
 use Rattle.recipes.specs.declared.Turn.{Turn}
+use Rattle.permits.proofs.SideLaws.{not_behind}
 use Rattle.table.proofs.RankLaws.{length-ranks}
 use Rattle.table.proofs.PendingLaws.{range-is, range-bounds}
 use Rattle.meaning.proofs.Basics.{false_of, and_l, and_r}
@@ -41,6 +42,16 @@ pub place-small : {q ranks : List ℕ} → Ready q ranks → (v m : ℕ) → m �
 unfolding place_of good_entries
 place-small {q} {ranks} r v m e =
     omega (arith, place-le 0 q v, prefix-few 1023 q (and_l (good_prefix q) (all_of (λ x. leb (var x) 1023) q) r.good) (and_r (good_prefix q) (all_of (λ x. leb (var x) 1023) q) r.good))
+
+-- A clause reaches behind a place exactly if it is not within it -----------------------------------------------
+pub reaches-not : (q : List ℕ) (n : ℕ) (c : List ℕ) → not (within q n c) ≡ reaches q n c
+unfolding within reaches all_of any_of
+reaches-not q n [] = refl
+reaches-not q n (l ∷ c) = rw (not_behind n (place_of q (var l))) at (go (ltb n (place_of q (var l))) (reaches-not q n c))
+  where
+    go : (b : Bool) → not (within q n c) ≡ reaches q n c → not (not b && within q n c) ≡ (b || reaches q n c)
+    go true ih = refl
+    go false ih = ih
 
 -- Which clauses -------------------------------------------------------------------------------------------------
 pub far-both : (a b h k : Bool) → h ≡ a → h ≡ true → k ≡ b → not k ≡ (a && not b)

@@ -7,16 +7,14 @@ ghost use Rattle.recipes.specs.Recipe.{Ready, reaches, neither, copied, less, ta
 ghost use Rattle.recipes.specs.Left.{left, leaves_none};
 
 use crate::{Turn, Which};
-use permits::{has_variable, place_of};
+use permits::{has_variable, is_within, place_of};
 use table::{Pending, Ranks, Scratch, contains, flip, put_literal};
 
 // Whether a variable of the clause stands behind a place.
 fn reaches_behind(clause: &[u16], ranks: &Ranks, place: usize) -> bool
     ensures { (q : List ℕ) → Ready q ranks.now → result ≡ reaches q place clause.now }
 {
-    clause
-        .iter()
-        .any(|l| place < place_of(ranks, (*l / 2) as usize))
+    !is_within(clause, ranks, place)
 }
 
 // Whether neither the literal nor its opposite is there: no literal is of its variable.
@@ -48,6 +46,7 @@ pub fn is_taken(which: Which, ranks: &Ranks, i: usize, clause: &[u16]) -> bool
 }
 
 // The literal, or 0 in place of one that leaves.
+// Kept: a number and no Option, since the definition less gives 0 for a literal that leaves.
 fn left_of(literal: u16, leaving: u16) -> u16
     ensures { result ≡ less leaving literal }
 {
@@ -71,6 +70,7 @@ fn replaced_in(literal: u16, old: u16, new: u16) -> u16
 }
 
 // The entry at a place, 0 where there is none.
+// Kept: a number and no Option, since the clause takes the entry with get_or, 0 where there is none.
 fn entry_at(prefix: &[u16], at: usize) -> u16
     ensures { result ≡ get_or prefix.now at 0 }
 {
@@ -110,6 +110,7 @@ pub fn leaves_none(turn: Turn) -> bool
 }
 
 // What becomes of a literal of clause i: 0 where it leaves.
+// Kept: a number and no Option, since the definition turned gives 0 for a literal that leaves.
 pub fn literal_turned(turn: Turn, prefix: &[u16], ranks: &Ranks, i: usize, literal: u16) -> u16
     requires { Ready prefix.now ranks.now }
     ensures { result ≡ turned turn prefix.now i literal }
@@ -138,10 +139,7 @@ fn put_some(scratch: &mut Scratch, p: Pending, literal: u16) -> Pending
     requires { Pended scratch.old p }
     ensures { (raw : List ℕ) → Pends raw scratch.old p → Pends (raw ++ some_of literal) scratch.new result }
 {
-    if literal < 2 {
-        return p;
-    }
-    if 2047 < literal {
+    if literal < 2 || 2047 < literal {
         return p;
     }
     put_literal(scratch, p, literal)

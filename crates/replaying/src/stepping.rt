@@ -20,6 +20,7 @@ pub enum StepAnswer {
 
 impl StepAnswer {
     // Document 01's number; 0 where nothing is refused.
+    // Kept: C takes numbers, and the demands speak of them.
     pub fn number(self) -> u8
         ensures { result ≡ step_number self }
     {

@@ -9,6 +9,7 @@ ghost use Rattle.resolving.specs.Pairs.{each_of, of_pair, Silent, Idle, Alike, o
 use table::{Counts, clause_at, contains, flip};
 
 // The first clause that has the literal; the number of clauses where none has it.
+// Kept: a number and no Option, since it bounds a range of clauses, as end_with and next_pair do: an empty one where there is none.
 pub fn first_with(source: &[u16], c: Counts, literal: u16) -> usize
     requires { Held source.now c }
     ensures upper_bound { result ≤ c.clauses }
@@ -53,10 +54,7 @@ pub fn opposite_bits(clause: &[u16]) -> u64
 fn meets(x: &[u16], bits: u64, negative: u16, literal: u16) -> bool
     ensures { result ≡ true → (literal ≡ negative → ⊥) × (has (opposite literal) x.now ≡ true) }
 {
-    if literal == negative {
-        return false;
-    }
-    (bits >> (literal % 64)) % 2 == 1 && contains(x, flip(literal))
+    literal != negative && (bits >> (literal % 64)) % 2 == 1 && contains(x, flip(literal))
 }
 
 // Whether x and y may have a resolvent: y has the negative literal, and of no other literal of y the opposite is in x.

@@ -1,6 +1,6 @@
 // The run over two lent tables, with an allowance, a limit of steps and a lent log.
 ghost use Rattle.std.specs.Prelude.{◌≡◌};
-ghost use Rattle.running.specs.Running.{run_number, answer_back, ran_back, Runs};
+ghost use Rattle.running.specs.Running.{run_number, ran_back, Runs};
 
 use choice::End;
 use course::Running;
@@ -23,6 +23,7 @@ pub enum RunAnswer {
 
 impl RunAnswer {
     // Document 01's number.
+    // Kept: C takes numbers, and the demands speak of them.
     pub fn number(self) -> u8
         ensures { result ≡ run_number self }
     {
@@ -72,16 +73,21 @@ fn refuse(answer: RunAnswer, c: Counts) -> Ran
     }
 }
 
-// The answer for how a run ends; STOPPED where it does not end by itself.
-fn answer_for(outcome: Option<End>) -> RunAnswer
-    ensures { result ≡ answer_back outcome }
-{
-    match outcome {
-        Some(End::True) => RunAnswer::True,
-        Some(End::False) => RunAnswer::False,
-        Some(End::Finished) => RunAnswer::Finished,
-        Some(End::OutOfRoom) => RunAnswer::OutOfRoom,
-        None => RunAnswer::Stopped,
+// How a run ends; STOPPED where it does not end by itself.
+impl From<Option<End>> for RunAnswer {
+    ghost use Rattle.std.specs.Prelude.{◌≡◌};
+    ghost use Rattle.running.specs.Running.{answer_back};
+
+    ghost from_gives = { λ outcome answer. answer ≡ answer_back outcome };
+
+    fn from(outcome: Option<End>) -> RunAnswer {
+        match outcome {
+            Some(End::True) => RunAnswer::True,
+            Some(End::False) => RunAnswer::False,
+            Some(End::Finished) => RunAnswer::Finished,
+            Some(End::OutOfRoom) => RunAnswer::OutOfRoom,
+            None => RunAnswer::Stopped,
+        }
     }
 }
 
@@ -90,7 +96,7 @@ fn give_run(r: Running) -> Ran
     ensures { result ≡ ran_back r }
 {
     Ran {
-        answer: answer_for(r.outcome),
+        answer: r.outcome.into(),
         counts: r.counts,
         steps: r.steps,
     }

@@ -36,6 +36,7 @@ pub fn variable(w: Word) -> u16
 }
 
 // Where `p` is due, then where `cnf`, M and C are.
+// Kept: `on_p` and `on_cnf` are two, as their definitions are; one would take the word and the phase as arguments and be no shorter.
 pub fn on_p(w: Word) -> Move
     ensures { result ≡ on_p w }
 {

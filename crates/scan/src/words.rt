@@ -38,6 +38,7 @@ pub fn read_digits(word: &[u8]) -> Option<u16>
 pub fn read_numeral(word: &[u8]) -> Option<u16>
     ensures { result ≡ numeral_in word.now }
 {
+    // Kept: two ifs; one `||` of all three tests was tried, and the proof didn't close.
     if word.is_empty() {
         return None;
     }

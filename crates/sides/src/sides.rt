@@ -41,6 +41,7 @@ pub fn clause_with<'a>(at: &AtHand<'a>, literal: u16, i: usize) -> &'a [u16]
 }
 
 // How many literals they have.
+// Kept: by number here and in the next two, since the statement of clause_with is about the i-th clause.
 pub fn side_size(at: &AtHand, literal: u16) -> usize
     ensures { (φ : Formula) → FiledIn φ at.now → result ≡ literals (with_lit literal φ.clauses) }
 {
@@ -91,6 +92,7 @@ fn rarer(index: &[u16], l: u16, k: u16) -> u16
 }
 
 // A literal of the clause that is in fewest clauses.
+// Kept: a fold, since the definition says which one of several it is.
 pub fn rarest(index: &[u16], clause: &[u16]) -> u16
     requires indexed { Indexed index.now }
     requires clause_nonzero { 0 < length clause.now }

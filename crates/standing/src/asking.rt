@@ -13,6 +13,7 @@ pub fn literals<'a>(first: &'a [u16], second: &'a [u16], c: Counts) -> &'a [u16]
 }
 
 // Document 01's number of that call; 0 where nothing is refused.
+// Kept: C takes numbers, and the demands speak of them.
 pub fn literals_number(first: &[u16], second: &[u16], c: Counts) -> u8
     ensures { result ≡ asked_number (asked first.now second.now c) }
 {

@@ -1,6 +1,6 @@
 -- The loops and tests of src/reduce.rt, by their definitions in specs/Ranks.antt.
 -- Assumes nothing.
-use Prim.Native.Nat.{ℕ, ◌+◌, ◌/◌, ◌%◌, ◌≤◌, ◌<◌}
+use Prim.Native.Nat.{ℕ, ◌+◌, ◌/◌, ◌%◌, ◌≤◌, ◌<◌, max}
 use mathlib.Core.Path.{◌≡◌, refl, sym, ap, ◌∙◌}
 use mathlib.Core.Bool.{true, false}
 use mathlib.Core.List.{List}
@@ -24,6 +24,10 @@ small-below l h = let k = leb-true (l / 2) 1023 h in omega arith
 pub small_at : (c : List ℕ) (i : ℕ) → all_of small c ≡ true → i < length c → get_or c i 0 < 2048
 small_at c i a h = small-below (get_or c i 0) (all_get_d small 0 c i a h)
 
+-- x is an item of a clause
+pub small_item : (c : List ℕ) (k x : ℕ) → all_of small c ≡ true → k < length c → x ≡ get_or c k x → x < 2048
+small_item c k x a n e = small-below x (ap small e ∙ all_get_d small x c k a n)
+
 pub rank-read : (ranks : List ℕ) (l : ℕ) → get_or ranks (l / 2) 0 ≡ rank_at ranks l
 unfolding rank_at var
 rank-read ranks l = refl
@@ -40,13 +44,9 @@ module _ (ranks : List ℕ) (e l r : ℕ) (q : r ≡ rank_at ranks l) where
   unfolding later_by
   later-none h = rw (is_odd h)
 
-  pub later-is : (r % 2 ≡ 1 → ⊥) → e < r / 2 → r / 2 ≡ later_by ranks e l
+  pub later-most : (r % 2 ≡ 1 → ⊥) → max e (r / 2) ≡ later_by ranks e l
   unfolding later_by place_at
-  later-is h k = rw (is-even h, ← q) (omega arith)
-
-  pub later-stays : (r % 2 ≡ 1 → ⊥) → r / 2 ≤ e → e ≡ later_by ranks e l
-  unfolding later_by place_at
-  later-stays h k = rw (is-even h, ← q) (omega arith)
+  later-most h = rw (is-even h, ← q)
 
   pub stays-left : r % 2 ≡ 1 → ltb (r / 2) e ≡ stays_by ranks e l
   unfolding stays_by place_at

@@ -23,10 +23,7 @@ pub fn push_clause(t: &mut [u16], c: Counts, clause: &[u16]) -> Option<Counts>
 {
     let n = c.clauses;
     let m = c.literals;
-    if Counts::CLAUSES <= n {
-        return None;
-    }
-    if Counts::LITERALS - m < clause.len() {
+    if Counts::CLAUSES <= n || Counts::LITERALS - m < clause.len() {
         return None;
     }
     let at = Counts::LITERALS_AT + m;
@@ -53,10 +50,7 @@ pub fn push_variable(t: &mut [u16], c: Counts, entry: u16) -> Option<Counts>
     ensures { (φ : Formula) → Holds φ t.old c → Became φ (with_variable φ entry) c.second result t.new }
 {
     let at = c.variables;
-    if Counts::VARIABLES <= at {
-        return None;
-    }
-    if 2047 < entry {
+    if Counts::VARIABLES <= at || 2047 < entry {
         return None;
     }
     t[at] = entry;
@@ -64,6 +58,7 @@ pub fn push_variable(t: &mut [u16], c: Counts, entry: u16) -> Option<Counts>
 }
 
 // Zeroes a slice.
+// Kept: a contract in our words, which the proofs above cite.
 pub fn clear(s: &mut [u16])
     ensures { s.new ≡ replicate (length s.old) 0 }
 {

@@ -20,10 +20,7 @@ pub fn stands_at(s: &[u16], p: usize, x: u16) -> bool
     requires p_value { p ≡ count_below s.now x }
     ensures { result ≡ has x s.now }
 {
-    if p < s.len() {
-        return s[p] == x;
-    }
-    false
+    p < s.len() && s[p] == x
 }
 
 // Puts x, which is not there yet, among the first m numbers, at its place p.

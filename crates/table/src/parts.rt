@@ -33,6 +33,7 @@ pub fn clause_at(t: &[u16], c: Counts, i: usize) -> &[u16]
 }
 
 // The first clause before `until` that equals this one; `until` where none does.
+// Kept: the bound and no None, since is_before compares with it.
 pub fn first_equal(t: &[u16], c: Counts, clause: &[u16], until: usize) -> usize
     requires held { Held t.now c }
     requires until_le_clauses { until ≤ c.clauses }

@@ -16,6 +16,7 @@ pub fn add_rank(ranks: &mut Ranks, n: usize, entry: u16)
 }
 
 // Zeroes the slice: the ranks of no prefix.
+// Kept: a contract in our words, which the proofs above cite.
 fn no_ranks(ranks: &mut Ranks)
     ensures { ranks.new ≡ ranks_of [] }
 {
@@ -26,10 +27,7 @@ fn no_ranks(ranks: &mut Ranks)
 pub fn is_new(ranks: &Ranks, entry: u16) -> bool
     ensures { (p : List ℕ) → ranks.now ≡ ranks_of p → result ≡ rankable p entry }
 {
-    if entry < 2 {
-        return false;
-    }
-    if 2047 < entry {
+    if entry < 2 || 2047 < entry {
         return false;
     }
     let v = (entry / 2) as usize;

@@ -71,6 +71,7 @@ pub fn close_clause(
     requires pended { Pended scratch.old p }
     ensures { (φ : Formula) (raw : List ℕ) → Holds φ t.old c → good_prefix φ.prefix ≡ true → ranks.now ≡ ranks_of φ.prefix → Pends raw scratch.old p → Became φ (with_raw φ raw) c.second result t.new }
 {
+    // Kept: no closure, since adding lends the table, and the scratch beside it.
     match tidy_in(scratch, p, ranks) {
         Some(m) => add_clause(t, c, &scratch[..m]),
         None => Some(c),

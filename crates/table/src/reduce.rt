@@ -23,11 +23,7 @@ fn later(ranks: &Ranks, last: u16, literal: u16) -> u16
     if rank % 2 == 1 {
         return last;
     }
-    let place = rank / 2;
-    if last < place {
-        return place;
-    }
-    last
+    last.max(rank / 2)
 }
 
 // The rightmost of a place and of those of a clause's existentials.
@@ -48,10 +44,7 @@ pub fn stays_by(ranks: &Ranks, last: u16, literal: u16) -> bool
     ensures { result ≡ stays_by ranks.now last literal }
 {
     let rank = rank_of(ranks, literal);
-    if rank % 2 == 1 {
-        return rank / 2 < last;
-    }
-    true
+    rank % 2 == 0 || rank / 2 < last
 }
 
 // Whether every literal of a clause stays, where its rightmost existential is at `last`.
@@ -59,12 +52,7 @@ pub fn all_stay_by(ranks: &Ranks, last: u16, clause: &[u16]) -> bool
     requires { all_of small clause.now ≡ true }
     ensures { result ≡ all_of (stays_by ranks.now last) clause.now }
 {
-    for literal in clause {
-        if !stays_by(ranks, last, *literal) {
-            return false;
-        }
-    }
-    true
+    clause.iter().all(|literal| stays_by(ranks, last, *literal))
 }
 
 // Whether every literal stays: the clause is reduced.
@@ -81,6 +69,7 @@ pub fn reduce_in(scratch: &mut [u16], n: usize, ranks: &Ranks) -> usize
     ensures { (result ≤ n) × (take result scratch.new ≡ reduced_by ranks.now (take n scratch.old)) }
 {
     let last = last_by(ranks, 0, &scratch[..n]);
+    // Kept: j goes up at some turns only.
     let mut j = 0;
     for i in 0..n {
         let l = scratch[i];

@@ -3,6 +3,7 @@ ghost use Rattle.std.specs.Prelude.{◌≡◌, ◌<◌};
 ghost use Rattle.meaning.specs.Lists.{has, same, part_of};
 ghost use Rattle.meaning.specs.Formula.{opposite};
 
+// Kept: this and `equal` have contracts in our words, which the proofs above cite.
 pub fn contains(clause: &[u16], literal: u16) -> bool
     ensures { result ≡ has literal clause.now }
 {

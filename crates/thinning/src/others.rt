@@ -11,7 +11,6 @@ ghost use Rattle.thinning.specs.Going.{Readable};
 
 use crate::Flags;
 use crate::near::is_near_with;
-use crate::places::more_pass;
 use flags::raise;
 use table::{Counts, Ranks, clause_at, contains};
 
@@ -20,9 +19,18 @@ const FEW: usize = 31;
 
 // Whether few clauses have the literal. It only saves time.
 pub fn few_with(source: &[u16], c: Counts, literal: u16) -> bool
-    requires { Readable source.now c }
+    requires { Held source.now c }
 {
-    !more_pass(source, c, FEW, |clause| contains(clause, literal))
+    let mut left = FEW;
+    for i in 0..c.clauses {
+        if contains(clause_at(source, c, i), literal) {
+            if left == 0 {
+                return false;
+            }
+            left -= 1;
+        }
+    }
+    true
 }
 
 // Raises the flags of a clause's literals.

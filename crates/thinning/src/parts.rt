@@ -10,6 +10,7 @@ use flags::is_raised;
 use table::{Ranks, flip, stays_by};
 
 // The next literal, from index `from` on, that stays; the clause's length where there is none.
+// Kept: a number and no Option, since the two walks compare it with a length; a loop, since its index is what it answers.
 fn next_firm(ranks: &Ranks, last: u16, clause: &[u16], from: usize) -> usize
     requires { (all_of small clause.now ≡ true) × (from ≤ length clause.now) }
     ensures { NextOf (stays_by ranks.now last) clause.now from result }

@@ -17,14 +17,14 @@ fn reaches_beyond(clause: &[u16], literal: u16, place: u16, ranks: &Ranks) -> bo
     clause.len() <= SHORT && contains(clause, literal) && place < last_by(ranks, 0, clause)
 }
 
-// Whether more clauses than n pass a test.
-pub fn more_pass<F: Fn(&[u16]) -> bool>(source: &[u16], c: Counts, n: usize, passes: F) -> bool
-    requires readable { Readable source.now c }
-    requires callable { (x : _) → all_of small x.now ≡ true → F.pre passes x }
+// Whether more short clauses with the literal than may be far have an existential right of the place.
+// Kept: the count of others::few_with is the same, but that one asks less of the table.
+fn many_beyond(source: &[u16], c: Counts, literal: u16, place: u16, ranks: &Ranks) -> bool
+    requires { Readable source.now c }
 {
-    let mut left = n;
+    let mut left = FAR;
     for i in 0..c.clauses {
-        if passes(clause_at(source, c, i)) {
+        if reaches_beyond(clause_at(source, c, i), literal, place, ranks) {
             if left == 0 {
                 return true;
             }
@@ -32,18 +32,6 @@ pub fn more_pass<F: Fn(&[u16]) -> bool>(source: &[u16], c: Counts, n: usize, pas
         }
     }
     false
-}
-
-// Whether more short clauses with the literal than may be far have an existential right of the place.
-fn many_beyond(source: &[u16], c: Counts, literal: u16, place: u16, ranks: &Ranks) -> bool
-    requires { Readable source.now c }
-{
-    more_pass(
-        source,
-        c,
-        FAR,
-        |clause| reaches_beyond(clause, literal, place, ranks),
-    )
 }
 
 // The leftmost place beyond which few reach, found by halving.

@@ -154,6 +154,7 @@ pub fn close(
 {
     match close_marked(table, r.counts, scratch, r.pending, ranks, marks) {
         Some(counts) => Ok(r.with_closed(counts)),
+        // Kept: document 01's number, as `Move::Fault` has it.
         None => Err(9),
     }
 }

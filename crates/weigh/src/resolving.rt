@@ -110,8 +110,7 @@ fn may_resolve_within(at: &AtHand, a: usize, n: usize) -> bool
 pub fn may_resolve(at: &AtHand, a: usize) -> bool
     ensures { (φ : Formula) → InHand φ at.now → result ≡ resolve_permitted φ a }
 {
-    let v = at.counts.variables;
-    let n = first_universal(&at.table[..v], place_of(at.ranks, a));
+    let n = first_universal(&at.table[..at.counts.variables], place_of(at.ranks, a));
     may_resolve_within(at, a, n)
 }
 

@@ -2,6 +2,7 @@
 use std::fmt;
 
 // A step, with the clauses or the variable that it is made on.
+// Kept: an enum beside permits' Call, since the face hands out no Call, and this program uses the face alone.
 #[derive(Drop)]
 enum Step {
     Unit(u32),

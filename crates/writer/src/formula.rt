@@ -16,9 +16,8 @@ fn text_size(t: &[u16], c: Counts) -> usize
     requires { Held t.now c }
     ensures { (φ : Formula) → Holds φ t.now c → Sized (write φ) most_text result }
 {
-    let v = c.variables;
-    let m = largest_variable(&t[..v]);
-    header_size(m, c.clauses as u16) + prefix_size(&t[..v]) + clauses_size(t, c)
+    let m = largest_variable(&t[..c.variables]);
+    header_size(m, c.clauses as u16) + prefix_size(&t[..c.variables]) + clauses_size(t, c)
 }
 
 // The header, the quantifier lines and the clauses, from the start of the output on; gives the number of bytes.
@@ -27,10 +26,9 @@ fn write_text(out: &mut [u8], t: &[u16], c: Counts) -> usize
     requires room { (φ : Formula) → Holds φ t.now c → Room (write φ) 0 out.old }
     ensures { (φ : Formula) → Holds φ t.now c → Written (write φ) 0 out.old out.new result }
 {
-    let v = c.variables;
-    let m = largest_variable(&t[..v]);
+    let m = largest_variable(&t[..c.variables]);
     let mut at = write_header(out, 0, m, c.clauses as u16);
-    at = write_prefix(out, at, &t[..v]);
+    at = write_prefix(out, at, &t[..c.variables]);
     write_clauses(out, at, t, c)
 }
 

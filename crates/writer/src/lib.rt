@@ -24,6 +24,7 @@ pub enum WriteAnswer {
 
 impl WriteAnswer {
     // Document 01's number; 0 where nothing is refused.
+    // Kept: C takes numbers, and the demands speak of them.
     pub fn number(self) -> u8
         ensures { result ≡ write_number self }
     {

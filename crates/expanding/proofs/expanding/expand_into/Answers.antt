@@ -67,8 +67,8 @@ slice_bounds-count_existentials-end c =
     let b = bounds (begun-held c.requires) in
     sym (length-take-le _ _ (omega arith))
 
-pub overflow_cast-k : goal.overflow_cast-k
-overflow_cast-k c = let b = bounds (begun-held c.requires) in omega arith
+pub overflow_cast-c : goal.overflow_cast-c
+overflow_cast-c c = let b = bounds (begun-held c.requires) in omega arith
 
 pub overflow_cast-n : goal.overflow_cast-n
 overflow_cast-n c = omega (arith, narrow c.args.a c.place_of.result c.count_existentials-n.result c.copy_prefix-d.new.target c.copy_prefix-d.result c.copy_prefix-d.ensures.holds c.requires (c.place_of.ensures c.requires.formula.prefix (given-ready c.requires.given).ranked (given-ready c.requires.given).good) c.count_existentials-n.ensures)

@@ -5,20 +5,17 @@ use mathlib.Core.Path.{◌≡◌, sym, ◌∙◌}
 use mathlib.Core.Bool.{◌&&◌}
 use Rattle.judging.specs.Layout.{all_zero, part}
 use Rattle.judging.proofs.LayoutLaws.{not-long, not-variables, not-clauses, not-literals, not-zero, ends-tell}
-use Rattle.judging.proofs.layout.layout_ok.Goals.{then-all_zero, else-all_zero, then-all_zero-2, else-all_zero-2}
+use Rattle.judging.proofs.layout.layout_ok.Goals.{then-t-ne-TABLE-via-then-t-ne-TABLE, then-t-ne-TABLE-via-else-t-ne-TABLE+then-v-gt-VARIABLES, then-t-ne-TABLE-via-else-t-ne-TABLE+else-v-gt-VARIABLES+then-n-gt-CLAUSES, then-t-ne-TABLE-via-else-t-ne-TABLE+else-v-gt-VARIABLES+else-n-gt-CLAUSES+then-m-gt-LITERALS, then-all_zero, else-all_zero, then-all_zero-2, else-all_zero-2}
 use Rattle.judging.proofs.layout.layout_ok.Goals as goal
 
 pub returns-then-t-ne-TABLE : goal.returns-then-t-ne-TABLE
-returns-then-t-ne-TABLE c = not-long _ _ c.if-t-ne-TABLE.true
-
-pub returns-then-v-gt-VARIABLES : goal.returns-then-v-gt-VARIABLES
-returns-then-v-gt-VARIABLES c = not-variables _ _ c.if-t-ne-TABLE.false c.if-v-gt-VARIABLES.true
-
-pub returns-then-n-gt-CLAUSES : goal.returns-then-n-gt-CLAUSES
-returns-then-n-gt-CLAUSES c = not-clauses _ _ c.if-t-ne-TABLE.false c.if-v-gt-VARIABLES.false c.if-n-gt-CLAUSES.true
-
-pub returns-then-m-gt-LITERALS : goal.returns-then-m-gt-LITERALS
-returns-then-m-gt-LITERALS c = not-literals _ _ c.if-t-ne-TABLE.false c.if-v-gt-VARIABLES.false c.if-n-gt-CLAUSES.false c.if-m-gt-LITERALS.true
+returns-then-t-ne-TABLE c =
+    elim c.then-t-ne-TABLE.branch [
+      | then-t-ne-TABLE-via-then-t-ne-TABLE w ↦ not-long _ _ w.if-t-ne-TABLE.true
+      | then-t-ne-TABLE-via-else-t-ne-TABLE+then-v-gt-VARIABLES w ↦ not-variables _ _ w.if-t-ne-TABLE.false w.if-v-gt-VARIABLES.true
+      | then-t-ne-TABLE-via-else-t-ne-TABLE+else-v-gt-VARIABLES+then-n-gt-CLAUSES w ↦ not-clauses _ _ w.if-t-ne-TABLE.false w.if-v-gt-VARIABLES.false w.if-n-gt-CLAUSES.true
+      | then-t-ne-TABLE-via-else-t-ne-TABLE+else-v-gt-VARIABLES+else-n-gt-CLAUSES+then-m-gt-LITERALS w ↦ not-literals _ _ w.if-t-ne-TABLE.false w.if-v-gt-VARIABLES.false w.if-n-gt-CLAUSES.false w.if-m-gt-LITERALS.true
+    ]
 
 pub returns-then-all_zero-3 : goal.returns-then-all_zero-3
 returns-then-all_zero-3 c =

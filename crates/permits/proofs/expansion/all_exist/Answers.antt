@@ -1,18 +1,19 @@
--- The loop's invariant: what is left decides.
+-- What is left after a few entries, each by the library's chain.
 -- Assumes nothing.
-use mathlib.Core.Path.{refl, sym, ◌∙◌}
-use native.Mathlib.Omega.{arith}
-use Rattle.permits.proofs.ScanLaws.{exist-fails, exist-turn, exist-end}
+use Rattle.std.proofs.Common.{◌∙◌, sym, not, rules, tests}
+use Rattle.std.proofs.lemmas.Iterator.{YieldsList-from_slice}
+use Rattle.std.proofs.lemmas.Iterator.Adapters.{YieldsList-from_skip}
+use Rattle.std.proofs.lemmas.Iterator.Search.{all_from_yields_List}
+use Rattle.meaning.specs.Formula.{odd}
+use Rattle.meaning.proofs.StdLists.{all_of-std}
+use Rattle.rules.specs.Eliminate.{all_exist}
+use Rattle.permits.proofs.ScanLaws.{even}
 use Rattle.permits.proofs.expansion.all_exist.Goals as goal
 
-pub loop-i-init : goal.loop-i-init
-loop-i-init c = refl
-
-pub returns-then-prefix-i-eq1 : goal.returns-then-prefix-i-eq1
-returns-then-prefix-i-eq1 c = sym (c.loop-i.invariant ∙ exist-fails c.args.prefix.now c.loop-i.i (omega arith) c.if-prefix-i-eq1.true)
-
-pub loop-i-preserved : goal.loop-i-preserved
-loop-i-preserved c = c.loop-i.invariant ∙ exist-turn c.args.prefix.now c.loop-i.i (omega arith) c.if-prefix-i-eq1.false
-
 pub returns : goal.returns
-returns c = sym (c.loop-i.invariant ∙ exist-end c.args.prefix.now c.loop-i.i (omega arith))
+unfolding all_exist
+returns c =
+    all_from_yields_List (λ q. not (odd q)) _ _ _ c.all.ensures.ran
+    (YieldsList-from_skip c.args.from (YieldsList-from_slice c.args.prefix.now cc) cc)
+    (λ x b q k. search (rules, tests, even))
+    ∙ sym (all_of-std _ _)

@@ -1,17 +1,14 @@
 -- The library's selection, counted.
 -- Assumes nothing.
-use Rattle.std.proofs.Common.{◌≡◌, ◌∙◌, sym, ap, eqb, ◌%◌, ℕ, not, length, rules, tests, arith}
+use Rattle.std.proofs.Common.{◌∙◌, sym, ap, not, length, rules, tests}
 use Rattle.std.proofs.lemmas.Iterator.{YieldsList-from_slice}
 use Rattle.std.proofs.lemmas.Iterator.Adapters.{YieldsList-from_skip}
 use Rattle.std.proofs.lemmas.Iterator.Consumers.{YieldsList-from_filter, count_from_yields_List}
 use Rattle.meaning.specs.Formula.{odd}
 use Rattle.meaning.proofs.StdLists.{keep_if-std}
 use Rattle.permits.specs.Variables.{existentials}
+use Rattle.permits.proofs.ScanLaws.{even}
 use Rattle.permits.proofs.variables.count_existentials.Goals as goal
-
-even : (q : ℕ) → eqb (q % 2) 0 ≡ not (odd q)
-unfolding odd
-even q = grind (arith, tests)
 
 pub returns : goal.returns
 unfolding existentials

@@ -5,4 +5,4 @@ use Rattle.running.proofs.runs.give_run.Goals as goal
 
 pub returns : goal.returns
 unfolding ran_back
-returns c = rw c.answer_for.ensures
+returns c = rw c.into.ensures

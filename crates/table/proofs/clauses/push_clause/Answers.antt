@@ -6,16 +6,17 @@ use lib.ListN.{length, length-take, length-drop}
 use Rattle.table.proofs.HoldLaws.{bounds}
 use Rattle.table.proofs.AnswerLaws.{full-clauses, full-literals, done-lent}
 use borrow.Rule.Slice.PartMut.{same_len_mid}
+use Rattle.table.proofs.clauses.push_clause.Goals.{then-n-ge-CLAUSES-via-then-n-ge-CLAUSES, then-n-ge-CLAUSES-via-else-n-ge-CLAUSES+then-m-clause}
 use Rattle.table.proofs.clauses.push_clause.Goals as goal
 
 pub returns-then-n-ge-CLAUSES : goal.returns-then-n-ge-CLAUSES
-returns-then-n-ge-CLAUSES c = λ φ h. full-clauses h _ c.if-n-ge-CLAUSES.true
+returns-then-n-ge-CLAUSES c = λ φ h. elim c.then-n-ge-CLAUSES.branch [
+  | then-n-ge-CLAUSES-via-then-n-ge-CLAUSES w ↦ full-clauses h _ w.if-n-ge-CLAUSES.true
+  | then-n-ge-CLAUSES-via-else-n-ge-CLAUSES+then-m-clause w ↦ full-literals h _ w.if-m-clause.true
+]
 
 pub overflow_sub-m : goal.overflow_sub-m
 overflow_sub-m c = let b = bounds c.requires in b.literals
-
-pub returns-then-m-clause : goal.returns-then-m-clause
-returns-then-m-clause c = λ φ h. full-literals h _ c.if-m-clause.true
 
 pub overflow_add-at : goal.overflow_add-at
 overflow_add-at c = let b = bounds c.requires in omega arith

@@ -1,23 +1,17 @@
--- The loop's invariant: the literals that are left decide.
+-- A chain over the literals.
 -- Assumes nothing.
-use mathlib.Core.Path.{refl, sym, ◌∙◌}
-use native.Mathlib.Omega.{arith}
+use Prim.Native.Nat.{◌<◌}
+use Rattle.std.proofs.Common.{◌∙◌, sym, rules, tests}
+use Rattle.std.proofs.lemmas.Iterator.Adapters.{serves_from_places}
+use Rattle.std.proofs.lemmas.Iterator.{YieldsList-from_slice}
+use Rattle.std.proofs.lemmas.Iterator.Search.{all_from_yields_List}
 use Rattle.table.specs.Ranks.{stays_by}
-use Rattle.table.proofs.LoopLaws.{all-fails, all-turn, all_end}
-use Rattle.table.proofs.StayLaws.{small_at}
+use Rattle.meaning.proofs.StdLists.{all_of-std}
+use Rattle.table.proofs.StayLaws.{small_item}
 use Rattle.table.proofs.reduce.all_stay_by.Goals as goal
 
-pub loop-literal-init : goal.loop-literal-init
-loop-literal-init c = refl
-
-pub stays_by-requires : goal.stays_by-requires
-stays_by-requires c = small_at _ c.loop-literal.literal-index c.requires (omega arith)
-
-pub loop-literal-preserved : goal.loop-literal-preserved
-loop-literal-preserved c = all-turn (stays_by _ _) 0 _ c.loop-literal.literal-index c.loop-literal.invariant (omega arith) (sym c.stays_by.ensures ∙ c.if-not-stays_by.false)
-
-pub returns-then-not-stays_by : goal.returns-then-not-stays_by
-returns-then-not-stays_by c = all-fails (stays_by _ _) 0 _ c.loop-literal.literal-index c.loop-literal.invariant (omega arith) (sym c.stays_by.ensures ∙ c.if-not-stays_by.true)
+pub all-requires : goal.all-requires
+all-requires c = record { can = tt; finite = tt; callable = serves_from_places (YieldsList-from_slice c.args.clause.now cc) (λ x q k. search (rules, tests)) (λ x k n e. let h : x.now < 2048 = small_item _ k _ c.requires n e in search rules) }
 
 pub returns : goal.returns
-returns c = all_end (stays_by _ _) 0 _ c.loop-literal.literal-index c.loop-literal.invariant (omega arith)
+returns c = all_from_yields_List (stays_by c.args.ranks.now c.args.last) _ _ _ c.all.ensures.ran (YieldsList-from_slice c.args.clause.now cc) (λ x b q k. search (rules, tests)) ∙ sym (all_of-std _ _)

@@ -4,7 +4,7 @@ use mathlib.Core.Path.{◌≡◌}
 use Rattle.std.specs.Prelude.{Option, Some}
 use Rattle.choice.specs.declared.End.{End}
 use Rattle.running.specs.Running.{answer_back}
-use Rattle.running.proofs.runs.answer_for.Goals as goal
+use Rattle.running.proofs.runs.RunAnswerFromOptionEnd.from.Goals as goal
 
 ended-so : (o : Option End) (x y : End) → o ≡ Some x → x ≡ y → answer_back (Some y) ≡ answer_back o
 ended-so o x y e f = rw (e, f)
