@@ -1,5 +1,5 @@
 // The replay of a log: its entries are applied one after the other, up to the first that is refused.
-ghost use Rattle.std.specs.Prelude.{◌≡◌};
+ghost use Rattle.std.specs.Prelude.{◌≡◌, Some};
 ghost use Rattle.meaning.specs.Formula.{Formula};
 ghost use Rattle.rules.specs.Run.{replay_bytes};
 ghost use Rattle.apply.specs.Applied.{Lends, Lent};
@@ -11,6 +11,17 @@ use crate::logs::first_entry;
 use apply::{Refusal, step};
 use table::Counts;
 
+// What is given back of a replay that is refused, after so many entries.
+fn refused(refusal: Refusal, counts: Counts, applied: usize) -> Replaying
+    ensures { result ≡ record { stop = Some refusal; counts = counts; applied = applied } }
+{
+    Replaying {
+        stop: Some(refusal),
+        counts,
+        applied,
+    }
+}
+
 // A log whose length is no multiple of 4 is refused before any step.
 pub fn replay(first: &mut [u16], second: &mut [u16], c: Counts, log: &[u8]) -> Replaying
     requires { Lent first.old second.old c }
@@ -18,11 +29,7 @@ pub fn replay(first: &mut [u16], second: &mut [u16], c: Counts, log: &[u8]) -> R
 {
     clear_spare(first, second, c);
     if log.len() % 4 != 0 {
-        return Replaying {
-            stop: Some(Refusal::BadEntry),
-            counts: c,
-            applied: 0,
-        };
+        return refused(Refusal::BadEntry, c, 0);
     }
     let mut d = c;
     for n in 0..log.len() / 4 {
@@ -32,11 +39,7 @@ pub fn replay(first: &mut [u16], second: &mut [u16], c: Counts, log: &[u8]) -> R
                 d = e;
             }
             Err(refusal) => {
-                return Replaying {
-                    stop: Some(refusal),
-                    counts: d,
-                    applied: n,
-                };
+                return refused(refusal, d, n);
             }
         }
     }

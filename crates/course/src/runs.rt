@@ -1,5 +1,5 @@
 // The run: at each point the choice, then the step and its entry in the log, until the run is over or stopped.
-ghost use Rattle.std.specs.Prelude.{◌≡◌, ◌≤◌, length};
+ghost use Rattle.std.specs.Prelude.{◌≡◌, ◌≤◌, length, Some};
 ghost use Rattle.meaning.specs.Formula.{Formula};
 ghost use Rattle.rules.specs.Run as rules;
 ghost use Rattle.apply.specs.Applied.{Lends, Lent};
@@ -8,8 +8,19 @@ ghost use Rattle.course.specs.Course.{RanAs};
 use crate::Running;
 use crate::between::{advance, choose_between, clear_spare};
 use crate::logs::put_entry;
-use choice::Next;
+use choice::{End, Next};
 use table::Counts;
+
+// What is given back of a run that ends by itself.
+fn over(end: End, counts: Counts, steps: usize) -> Running
+    ensures { result ≡ record { outcome = Some end; counts = counts; steps = steps } }
+{
+    Running {
+        outcome: Some(end),
+        counts,
+        steps,
+    }
+}
 
 // The run from the formula that the record names, with this allowance, at most so many steps, and a log.
 pub fn run(
@@ -33,11 +44,7 @@ pub fn run(
         let chosen = choose_between(first, second, d, allowance, searched);
         match chosen.next {
             Next::Over(end) => {
-                return Running {
-                    outcome: Some(end),
-                    counts: d,
-                    steps: n,
-                };
+                return over(end, d, n);
             }
             Next::Step(entry) => {
                 if n == room {

@@ -114,7 +114,9 @@ impl From<Why> for ReasonAnswer {
     }
 }
 
-// The answer for a variable, from the table that holds the formula. The spare table ends zero, whatever it held.
+// The answer for a variable, from the table that holds the formula. The spare table ends zero, whatever it held. Written out where it is
+// called, so that the call from C takes less of the stack.
+#[inline(always)]
 fn reason_at(
     t: &[u16],
     c: Counts,

@@ -16,7 +16,8 @@ pub fn named<'a>(first: &'a [u16], second: &'a [u16], c: Counts) -> &'a [u16]
     if c.second { second } else { first }
 }
 
-// What is said of one table.
+// What is said of one table. A function of its own in the machine code too, so that the calls from C take less of the stack.
+#[inline(never)]
 fn judge(t: &[u16], c: Counts) -> Result<(), Unfit>
     ensures { result ≡ judged t.now c }
 {

@@ -2,7 +2,7 @@
 // steps and the formula that is left on standard output. What is refused in reading is printed as `r`, number and offset.
 #![tactic(auto)]
 
-use rimhlada::{Counts, RunAnswer};
+use rimhlada::{Counts, Reading, RunAnswer};
 use std::{fmt, io};
 
 // An outcome, shown by its word. The tables come from the reader and E is 0, so no refusal is seen.
@@ -45,11 +45,21 @@ fn show_run(
     show_formula(rt, first, second, r.counts)
 }
 
+// One byte more than a text may have, so that a longer one is seen.
+fn read_input(
+    rt: &impl Input,
+    first: &mut [u16; 11261],
+    second: &mut [u16; 11261],
+) -> io::Result<Reading> {
+    let mut text = [0u8; 65537];
+    let n = shows::read_text(rt, &mut text)?;
+    Ok(rimhlada::read(&text[..n], first, second))
+}
+
 fn main(rt: HostRuntime) -> io::Result<()> {
     let mut first = [0u16; 11261];
     let mut second = [0u16; 11261];
-    let text = shows::read_text(&rt)?;
-    let r = rimhlada::read(&text, &mut first, &mut second);
+    let r = read_input(&rt, &mut first, &mut second)?;
     let number = r.answer.number();
     let offset = r.offset;
     if number != 0 {

@@ -1,6 +1,7 @@
 // A call, taken and answered.
 use crate::inputs::{Stop, head_of, take_bytes, take_table};
 use crate::operations::answer;
+use crate::results::Output;
 use shows::take_word;
 use std::io::Read;
 
@@ -13,7 +14,7 @@ pub fn serve_call(
     second: &mut [u16; 12000],
     bytes: &mut [u8; 70000],
     raw: &mut [u8; 24008],
-    out: &mut Vec<u8>,
+    out: &mut Output,
 ) -> Result<(), Stop> {
     let mut head = [0u8; 50];
     input.read_exact(&mut head)?;
@@ -35,6 +36,6 @@ pub fn serve_call(
         &mut bytes[..size],
         out,
     )?;
-    rt.write_all(out)?;
+    rt.write_all(out.as_slice())?;
     Ok(())
 }

@@ -5,7 +5,6 @@ ghost use Rattle.probe.specs.Taken.{Taken};
 
 use rimhlada::Counts;
 use shows::{fill, take_long, take_word};
-use std::alloc::AllocError;
 use std::io;
 use std::io::{ErrorKind, Read};
 
@@ -23,12 +22,6 @@ impl From<io::Error> for Stop {
         } else {
             Stop::Failed(e)
         }
-    }
-}
-
-impl From<AllocError> for Stop {
-    fn from(e: AllocError) -> Stop {
-        Stop::Failed(io::Error::from(e))
     }
 }
 

@@ -9,6 +9,7 @@ mod results;
 
 use calls::serve_call;
 use inputs::Stop;
+use results::Output;
 use std::io;
 
 // A proved loop has to end, and nothing says that the input does. So the loop counts its turns, up to a number that no run reaches.
@@ -18,7 +19,7 @@ fn main(rt: HostRuntime) -> io::Result<()> {
     let mut second = [0u16; 12000];
     let mut bytes = [0u8; 70000];
     let mut raw = [0u8; 24008];
-    let mut out = Vec::with_capacity(rt.alloc(), 160000)?;
+    let mut out = Output::new();
     for _ in 0..u64::MAX {
         match serve_call(
             &rt,

@@ -36,7 +36,7 @@ module _ {ψ : Formula} {t : List ℕ} {e : Counts} (h : Holds ψ t e) (v q : �
     unfolding keep_entry is_var var
     keep-is = rw (ne_eqb (q / 2) v other)
 
-    keep-push : (d : Counts) → r ≡ Some d → Holds (keep_entry v ψ q) t' d × (d.second ≡ e.second)
+    pub keep-push : (d : Counts) → r ≡ Some d → Holds (keep_entry v ψ q) t' d × (d.second ≡ e.second)
     keep-push d p = (rw keep-is (became-done ψ (with_variable ψ q) e.second r t' b d p), became-second ψ (with_variable ψ q) e.second r t' b d p)
 
     pub keep-or : fits (keep_entry v ψ q) ≡ true → {x : Counts} → x ≡ unwrap_or r e → Holds (keep_entry v ψ q) t' x × (x.second ≡ e.second)

@@ -1,13 +1,35 @@
 -- Laws of lists: parts, tails and loops that write.
 -- Assumes nothing.
-use Prim.Native.Nat.{ℕ, zero, suc, ◌+◌, ◌-◌, ◌≤◌}
-use mathlib.Core.Path.{◌≡◌, ap, ◌∙◌}
+use Prim.Native.Nat.{ℕ, zero, suc, ◌+◌, ◌-◌, ◌≤◌, ◌<◌}
+use mathlib.Core.Path.{◌≡◌, sym, ap, ◌∙◌}
 use mathlib.Core.List.{List, [], ◌∷◌, ◌++◌, append-nil}
 use lib.ListN.{length, get_or, take, drop, set, replicate, length-drop, drop_of_length-le}
-use lib.Seq.{take_all, take-append-add, drop-append-add, get_or-append-add}
+use lib.Seq.{drop-cons, take-suc, set_at, append_snoc, length-take-le, take_all, take-append-add, drop-append-add, get_or-append-add}
 use borrow.Rule.Slice.PartMut.{put_mid}
 use native.Mathlib.Omega.{arith}
-use native.Mathlib.Nat.{zero-add, suc-add, sub-zero, zero-sub, suc-sub-suc}
+use native.Mathlib.Nat.{le_of_lt, zero-add, suc-add, sub-zero, zero-sub, suc-sub-suc}
+use native.Mathlib.Numerals.{add-one}
+
+-- ---- a loop that copies s over the front of d, an element a turn
+pub front-next : (s d : List ℕ) (i : ℕ) → i < length s → i < length d → set (take i s ++ drop i d) i (get_or s i 0) ≡ take (i + 1) s ++ drop (i + 1) d
+front-next s d i h k =
+    ap (λ (r : List ℕ). set (take i s ++ r) i (get_or s i 0)) (drop-cons d i 0 k)
+    ∙ set_at (take i s) (get_or d i 0) (drop (suc i) d) (get_or s i 0) i (length-take-le i s (le_of_lt h))
+    ∙ sym (append_snoc (take i s) (get_or s i 0) (drop (suc i) d))
+    ∙ ap (λ (r : List ℕ). r ++ drop (suc i) d) (sym (take-suc s i 0 h))
+    ∙ ap (λ (k : ℕ). take k s ++ drop k d) (sym (add-one i))
+
+pub front-done : (s d : List ℕ) (i : ℕ) → i ≤ length s → length s ≤ i → take i s ++ drop i d ≡ s ++ drop (length s) d
+front-done s d i h k =
+    let e : i ≡ length s = omega arith in
+    ap (λ (r : List ℕ). r ++ drop i d) (take_all i s k) ∙ ap (λ (n : ℕ). s ++ drop n d) e
+
+-- the same, from a loop's invariant
+pub front-turn : (s d t : List ℕ) (i : ℕ) → t ≡ take i s ++ drop i d → i < length s → i < length d → set t i (get_or s i 0) ≡ take (i + 1) s ++ drop (i + 1) d
+front-turn s d t i e h k = rw e (front-next s d i h k)
+
+pub front-end : (s d t : List ℕ) (i : ℕ) → t ≡ take i s ++ drop i d → i ≤ length s → length s ≤ i → t ≡ s ++ drop (length s) d
+front-end s d t i e h k = e ∙ front-done s d i h k
 
 -- ---- what stands behind a first part of n numbers
 module _ {A : Type 0} where

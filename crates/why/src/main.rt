@@ -11,7 +11,7 @@ mod sentences;
 
 use arguments::{is_given, number_at};
 use prefix::variable_at;
-use rimhlada::{Counts, ReasonAnswer};
+use rimhlada::{Counts, Reading, ReasonAnswer};
 use sentences::{Left, Reason};
 use std::io;
 
@@ -73,11 +73,21 @@ fn run_and_ask(
     }
 }
 
-fn explain<R: Input + Print + Alloc>(rt: &R, v: usize, allowance: usize) -> io::Result<()> {
+// One byte more than a text may have, so that a longer one is seen.
+fn read_input(
+    rt: &impl Input,
+    first: &mut [u16; 11261],
+    second: &mut [u16; 11261],
+) -> io::Result<Reading> {
+    let mut text = [0u8; 65537];
+    let n = shows::read_text(rt, &mut text)?;
+    Ok(rimhlada::read(&text[..n], first, second))
+}
+
+fn explain(rt: &(impl Input + Print), v: usize, allowance: usize) -> io::Result<()> {
     let mut first = [0u16; 11261];
     let mut second = [0u16; 11261];
-    let text = shows::read_text(rt)?;
-    let r = rimhlada::read(&text, &mut first, &mut second);
+    let r = read_input(rt, &mut first, &mut second)?;
     let number = r.answer.number();
     let offset = r.offset;
     if number != 0 {

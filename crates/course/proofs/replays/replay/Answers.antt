@@ -8,7 +8,7 @@ use Rattle.course.proofs.ReplayLaws.{entry-there, along-start, along-bad, along-
 use Rattle.course.proofs.replays.replay.Goals as goal
 
 pub returns-then-log-ne0 : goal.returns-then-log-ne0
-returns-then-log-ne0 c = λ φ l. along-bad (lends-here l (c.clear_spare.ensures φ l)) _ c.if-log-ne0.true
+returns-then-log-ne0 c = λ φ l. rw c.refused.ensures (along-bad (lends-here l (c.clear_spare.ensures φ l)) _ c.if-log-ne0.true)
 
 pub loop-n-init : goal.loop-n-init
 loop-n-init c = (refl, refl, λ φ h. along-start h _ c.if-log-ne0.false)
@@ -23,7 +23,7 @@ step-requires c =
 
 pub returns-in-Err : goal.returns-in-Err
 returns-in-Err c =
-    λ φ l. along-refused (c.loop-n.invariant.2 φ (lends-here l (c.clear_spare.ensures φ l))) (omega arith) c.first_entry-entry.ensures c.step.ensures _ c.in-Err.is
+    λ φ l. rw c.refused-in-Err.ensures (along-refused (c.loop-n.invariant.2 φ (lends-here l (c.clear_spare.ensures φ l))) (omega arith) c.first_entry-entry.ensures c.step.ensures _ c.in-Err.is)
 
 pub loop-n-preserved : goal.loop-n-preserved
 loop-n-preserved c = (

@@ -22,7 +22,7 @@ returns-in-Over c =
     λ φ h.
     let t = c.loop-end.invariant.4 φ (lends-here h (c.clear_spare.ensures φ h)) in
     let q = c.choose_between-chosen.ensures t.formula (here-lends t.here) in
-    rw (sym c.min-room.ensures) (turns-over φ _ _ _ _ t _ (sym c.in-Over.is ∙ q.0) (turns-chosen φ _ _ _ _ t q.2).stands)
+    rw (c.over.ensures, sym c.min-room.ensures) (turns-over φ _ _ _ _ t _ (sym c.in-Over.is ∙ q.0) (turns-chosen φ _ _ _ _ t q.2).stands)
 
 pub returns-then-n-room : goal.returns-then-n-room
 unfolding run
