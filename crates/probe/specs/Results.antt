@@ -47,6 +47,6 @@ of_lent first second bytes = ((of_table first ++ of_table second) ++ of_length (
 unfoldable pub of_part : List ℕ → List ℕ → List ℕ → List ℕ
 of_part first second part = of_lent first second [] ++ of_table part
 
--- the same, and an empty part
+-- what follows n, with an empty part
 unfoldable pub of_rest : List ℕ → List ℕ → List ℕ → List ℕ
 of_rest first second bytes = of_lent first second bytes ++ of_table []

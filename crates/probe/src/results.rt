@@ -1,5 +1,5 @@
 // A result, put together: numbers as bytes, the least significant first. What has no room is left out; the output has room for every result.
-ghost use Rattle.std.specs.Prelude.{◌*◌, ◌≤◌, ◌≡◌, [], length, take};
+ghost use Rattle.std.specs.Prelude.{◌*◌, ◌≤◌, ◌≡◌, length, take};
 ghost use Rattle.probe.specs.Results.{Puts, of_length, of_count, of_numbers, of_table, of_front, of_lent, of_part, of_rest, of_counts};
 
 use arrayvec::ArrayVec;
@@ -42,7 +42,7 @@ fn fill_block(block: &mut [u8; 256], numbers: &[u16])
     }
 }
 
-// Numbers, two bytes each: all of them, or none. They go by blocks, since a `push` for each byte takes several times as long.
+// Numbers, two bytes each: all of them, or none. They go by blocks, since a `push` for each byte takes twice as long.
 fn put_numbers(out: &mut Output, numbers: &[u16])
     ensures { Puts out.old.items (of_numbers numbers.now) out.new.items }
 {
